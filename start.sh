@@ -1,11 +1,12 @@
-# Starts a program of this repository: the proved one where it stands, else, at once, the same sources compiled with checks
-# and unproved. To be sourced where `top` is a path of the repository's folder; then `start CRATE WORDS..` becomes the
-# program with these words.
+# Starts a program of this repository: the proved one where it stands, else the same sources compiled with checks and unproved, which
+# are kept. To be sourced where `top` is a path of the repository's folder; then `start CRATE WORDS..` becomes the program with these
+# words.
 #
-# Statuses of its own: 69 where rt is not on the path, 70 where the unproved way gave no answer, 73 where no temporary file can
-# be made, 78 where what was asked for writes a file, which only the proved program does. All others are the program's.
+# Statuses of its own: 69 where rt is not on the path, 70 where the sources can't be compiled, 73 where the program can't be kept. All
+# others are the program's. A check that fails ends it by SIGILL.
 
 . "$top/gate/answer.sh"
+proves='./prove builds the proved program'
 
 # The folders of the sources that a program is made of, in one line: its own crate's and those of what crates.txt says that it
 # uses, one through another. Definitions and proofs change no program: `./test` looks at them.
@@ -26,13 +27,14 @@ sources_of() {
         }' "$top/crates.txt"
 }
 
-# Where the program stands, and beside it what was looked at when it was last newer than all sources.
+# Where the program stands, the proved one or that of the folder unproved/, and beside it what was looked at when it was last newer than all
+# sources.
 stands_at() {
-    program=$1/crates/$crate/out/$crate
-    kept=$1/crates/$crate/out/looked_at
+    program=$1/crates/$crate/out/$2$crate
+    kept=$1/crates/$crate/out/$2looked_at
 }
 
-# Whether nothing changed since is_proved last looked at all sources: by the shell alone, since `find` takes longer than a short run.
+# Whether nothing changed since is_newest last looked at all sources: by the shell alone, since `find` takes longer than a short run.
 is_unchanged() {
     [ -x "$program" ] && [ -f "$kept" ] || return 1
     is_newer=
@@ -41,9 +43,9 @@ is_unchanged() {
     [ -z "$is_newer" ]
 }
 
-# Whether the proved program stands, and is newer than each source of its crates. What was looked at is kept: the next start has only to
+# Whether the program stands, and is newer than each source of its crates. What was looked at is kept: the next start has only to
 # test that no file is newer than the program, and no folder newer than what was kept, since a file was made there or taken away then.
-is_proved() {
+is_newest() {
     [ -x "$program" ] || return 1
     sources=$(sources_of "$crate")
     made=$kept.$$
@@ -68,60 +70,29 @@ tests_for() {
         sed 's:^[A-Za-z0-9_./-]*$:[ "$top/crates/&" -nt "$'"$2"'" ] ||:; t; s/.*/true ||/'
 }
 
+# Says one line.
+says() {
+    printf '%s: %s\n' "$name" "$1" >&2
+}
+
 # Says one line, and ends with a status.
 ends() {
-    printf '%s: %s\n' "$name" "$2" >&2
+    says "$2"
     exit "$1"
 }
 
-# Ends where a file would be written: by a word or by a line of a dialogue. The unproved program runs in a folder of its own.
-writes_no_file() {
-    for word; do
-        case $word in --dump | --dump=* | --out | --out=* | --migrate | --migrate=*) ends 78 "${word%%=*} needs the proved program, which ./prove builds" ;; esac
-        case "$1 $word" in 'run --names' | 'run --names='*) ends 78 '--names needs the proved program, which ./prove builds' ;; esac
-    done
-    ! grep -q '^save [^=]' "$said.lines" || ends 78 'save needs the proved program, which ./prove builds'
-}
-
-# The name by which the program gets a file: the word itself, or its last part where it leads out of this folder.
-name_of() {
-    case $1 in /* | ../* | */../*) printf '%s\n' "${1##*/}" ;; *) printf '%s\n' "$1" ;; esac
-}
-
-# Runs the program by `rt try`, which compiles the sources as they stand with checks and keeps nothing. Each word that is a file is
-# handed over, and so is the file of `--names=FILE`. Its input is read whole first, since it answers all lines together. What rt says
-# of a run that the program ended is left out.
+# Becomes the program compiled with checks, of the sources as they stand. It is compiled once, in some minutes, and kept.
 unproved() {
-    command -v rt >/dev/null || ends 69 'rt (the Rattle toolchain) is not on the path'
-    printf '%s: not proved yet: this run is compiled with checks, which takes some minutes; ./prove builds the proved program\n' "$name" >&2
-    said=$(mktemp) || ends 73 'no temporary file can be made'
-    trap 'rm -f "$said" "$said.lines"' EXIT
-    : >"$said.lines"
-    if [ "${1-}" = try ]; then
-        [ ! -t 0 ] || printf '%s: until then the lines are answered together, once they end (Ctrl-D)\n' "$name" >&2
-        cat >"$said.lines"
+    stands_at "$top" unproved/
+    told='compiled with checks'
+    if is_unchanged || is_newest; then
+        says "not proved yet: $told; $proves"
+    else
+        command -v rt >/dev/null || ends 69 'rt (the Rattle toolchain) is not on the path'
+        says "not proved yet: $told, which takes some minutes once; $proves"
+        python3 -B "$top/gate/unproved.py" "$crate" || ends $? 'the sources were not compiled'
     fi
-    writes_no_file "$@"
-    for word; do
-        case $word in --names=*) set -- "$@" --names "${word#*=}" ;; *) set -- "$@" "$word" ;; esac
-        shift
-    done
-    words=$#
-    for word; do
-        [ ! -f "$word" ] || set -- "$@" --data "$(name_of "$word")=$(realpath "$word")"
-    done
-    set -- "$@" --
-    for _ in $(seq 1 "$words"); do
-        if [ -f "$1" ]; then set -- "$@" "$(name_of "$1")"; else set -- "$@" "$1"; fi
-        shift
-    done
-    status=0
-    (cd "$top/crates/$crate" && exec rt try "$@" <"$said.lines" 2>"$said") || status=$?
-    if grep -q '^run=ended ' "$said"; then
-        grep -vE '^(checked|interpreter): |^races: |^run=ended ' "$said" >&2 || true
-        exit "$status"
-    fi
-    ends 70 "the unproved run gave no answer: $(tail -n 1 "$said")"
+    becomes_program "$@"
 }
 
 # Becomes the program. A dialogue at a terminal gets lines back by the arrow keys, where rlwrap is on the path; it keeps none of them.
@@ -163,12 +134,12 @@ start() {
     name=$crate
     case $crate in *_*) name=${crate%%_*}-${crate#*_} ;; esac
     shift
-    stands_at "$top"
+    stands_at "$top" ''
     if asks_for_help "$@" && { [ -t 1 ] || [ ! -x "$program" ]; }; then help "$@"; fi
     if is_unchanged; then becomes_program "$@"; fi
     case $top in /*) ;; *) top=$PWD/$top ;; esac
-    stands_at "$top"
-    if is_proved; then becomes_program "$@"; fi
+    stands_at "$top" ''
+    if is_newest; then becomes_program "$@"; fi
     case "$*" in --version | -V) printf '%s %s\n' "$name" "$(cat "$top/VERSION")" && exit 0 ;; esac
     unproved "$@"
 }

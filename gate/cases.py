@@ -11,14 +11,18 @@ import sys
 import tempfile
 from concurrent.futures import ThreadPoolExecutor
 
+from gate import unproved
+
 FOLDER = "cases"
 LIMIT = 120
 HEADING = "== "
 REFUSED, AGAIN = "each request refused", "each request refused, made again"
 ESCAPE = re.compile(rb"\\x([0-9a-f]{2})")
 GONE = re.compile(r"(\d+) gone")
+# The program that plays scenes, which is compiled with checks.
+SCENES = "probe"
 # The programs that the words of a case may begin with, each with what starts it.
-PROGRAMS = {"histar": "./histar", "histar-audit": "./histar-audit", "probe": "crates/probe/out/probe"}
+PROGRAMS = {"histar": "./histar", "histar-audit": "./histar-audit", SCENES: unproved.place(SCENES)}
 USAGE = re.compile(rb"error: .*For more information, try '--help'\.\n", re.S)
 
 
@@ -239,9 +243,17 @@ def files():
     return sorted(it for it in glob.glob(f"{FOLDER}/**", recursive=True) if os.path.isfile(it))
 
 
+def plays_scenes(file):
+    """Whether a case plays the program of scenes."""
+    with open(file, "rb") as it:
+        return re.search(rf"^{SCENES}\b".encode(), it.read(), re.M)
+
+
 def play(report, names=()):
     """Plays these files, or all. A file that is no case fails."""
     chosen = list(names) or files()
+    if any(map(plays_scenes, chosen)):
+        unproved.newest(SCENES)
     report.counts(bool(chosen), f"{len(chosen)} cases")
     with ThreadPoolExecutor(os.cpu_count()) as pool:
         for file, (fault, runs) in zip(chosen, pool.map(played, chosen)):

@@ -12,6 +12,7 @@ import subprocess
 import tempfile
 from concurrent.futures import ThreadPoolExecutor
 
+from gate import unproved
 from gate.memory import library
 from gate.plays import Script as Example
 from gate.rules import played_rules
@@ -105,10 +106,10 @@ def play(report, program, counter, scripts):
     return bool(scripts) and not any(faults)
 
 
-def compare(report, tree):
+def compare(report):
     """Plays all scripts on both machines."""
     with tempfile.TemporaryDirectory(prefix="machines-") as room:
-        compare_all(report, f"{tree}/crates/probe/out/probe", library(room, "count"))
+        compare_all(report, unproved.newest("probe"), library(room, "count"))
 
 
 def compare_all(report, program, counter):

@@ -7,7 +7,7 @@ import subprocess
 import tempfile
 from concurrent.futures import ThreadPoolExecutor
 
-from gate import cases
+from gate import cases, unproved
 
 LIMIT = 60
 # The names by which a program tells a fault, beside its own, by the verb that it is started with.
@@ -34,7 +34,7 @@ class Refused:
         self.file, self.before, self.run = file, runs[:-1], runs[-1]
         words = tuple(os.fsdecode(it) for it in self.run.words[:2])
         crate = words[0].replace("-", "_")
-        self.program = os.path.abspath(f"{tree}/crates/{crate}/out/{crate}")
+        self.program = os.path.abspath(unproved.place(crate) if crate in unproved.listed() else f"{tree}/crates/{crate}/out/{crate}")
         self.is_dialogue = words == ("histar", "try")
         self.lines = [f"{it}: out of memory\n".encode() for it in (words[0], NAMES.get(words, words[0]))]
 
@@ -99,6 +99,7 @@ def marked(tree):
 
 def refuse(report, tree):
     """Refuses each request in turn in these runs."""
+    unproved.newest("probe")
     with tempfile.TemporaryDirectory(prefix="memory-") as room, ThreadPoolExecutor(os.cpu_count()) as pool:
         refusing, runs = library(room, "refuse"), list(marked(tree))
         report.counts(bool(runs), f"{len(runs)} runs of cases have their requests refused")

@@ -2,12 +2,14 @@
 its end. What a document gives a name for (SCRIPT, DUMP, ..) stands in FILLED.
 
 What README has before ./prove is started unproved, says so in one line, and is started once more after it: then it says the
-same and nothing beside. After ./prove no command writes to standard error."""
+same and nothing beside. After ./prove no command writes to standard error. The first half hour (a script run, edited, checked, run again,
+its dump, audit and page) comes before anything is proved."""
 import os
 import re
 import shutil
 import subprocess
 import tempfile
+import time
 
 from gate import documents
 from gate.plays import text
@@ -21,6 +23,20 @@ ELSEWHERE = ("./test", "./test quick", "./package", "./install PREFIX")
 PROVE, LIB, TRY = "./prove", "./lib", "./histar try"
 ASKED, ANSWERED = "c = cat_create\ncat_create\n", "cat c\ncat #2\n"
 FIRST = "refused 5 CannotObserve\n"
+# What is typed in the first half hour: commands, each with whether it is the first of its program, which is compiled then, and what it says.
+MINE = "cp examples/first.histar mine.histar && echo 'boot: segment_read root s 0 2' >> mine.histar"
+FIRST_LOOK = (
+    ("./histar run examples/first.histar", True, "boot 4: data 0001"),
+    (MINE, False, ""),
+    ("./histar check mine.histar", False, ""),
+    ("./histar run mine.histar", False, "boot 5: data 0001\n"),
+    ("./histar run mine.histar --dump mine.dump", False, "boot 5: data 0001\n"),
+    ("./histar-audit mine.dump", True, "clean\n"),
+    ("./histar show page mine.dump --out mine.html && grep -c '</html>' mine.html", False, "1\n"),
+    ("printf 'c = cat_create\\nsave mine.saved\\n' | ./histar try && cat mine.saved", False, "c = boot: cat_create\n"),
+)
+# The seconds that a second answer takes at most.
+QUICK = 2
 MANIFEST = '[package]\nname = "first"\nversion = "0.1.0"\nedition = "2021"\n\n[dependencies]\nhistar = {{ path = "{top}/bindings/rust/histar" }}\n'
 
 
@@ -69,6 +85,15 @@ class Newcomer:
         wanted = ANSWERED if command == TRY else text(f"{script.removesuffix('.histar')}.out") if script else said
         return said == wanted and bool(said or "--out" in command or " check " in command)
 
+    def look_first(self):
+        """The first half hour: each program is compiled once, and any other answer comes at once."""
+        for command, is_first, wanted in FIRST_LOOK:
+            began = time.monotonic()
+            ended = status, said, beside = self.type(command)
+            taken = time.monotonic() - began
+            is_well = status == 0 and wanted in said and beside.count("not proved yet") == command.count("./histar") and (is_first or taken < QUICK)
+            self.counts(is_well, f"at first, {command}, {taken:.1f} s", ended)
+
     def start_unproved(self, command):
         """Types a command before ./prove: one line says that nothing is proved."""
         ended = status, said, beside = self.type(command)
@@ -92,6 +117,7 @@ class Newcomer:
         """README's commands, in its order."""
         commands = [it for it in commands_in(text(README)) if it not in ELSEWHERE]
         before = list(dict.fromkeys(commands[: commands.index(PROVE)]))
+        self.look_first()
         for it in before:
             self.start_unproved(it)
         if self.build(PROVE):

@@ -13,7 +13,7 @@ import subprocess
 import sys
 import tempfile
 
-from gate import stages, times
+from gate import stages, times, unproved
 from gate.report import minutes
 from gate.toolchain import SECONDS, toolchain
 
@@ -246,8 +246,10 @@ def interrupt(number, _):
 
 def crates_for(names):
     """These crates and those below them, lowest first."""
-    every = toolchain().rtlib.crates_below(os.getcwd())
+    every, left_out = toolchain().rtlib.crates_below(os.getcwd()), unproved.listed()
     for name in names:
+        if name in left_out:
+            raise Ended(WRONG_WORDS, f"{name}: it is compiled with checks, not proved: ./test play does so")
         if name not in [it.name for it in every]:
             raise Ended(WRONG_WORDS, f"{name}: crates.txt names no such crate")
     wanted = {below.name for it in every if it.name in names for below in [it, *it.below()]}

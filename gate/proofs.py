@@ -1,10 +1,12 @@
-"""Every crate proved from nothing, and the programs run: rt ci, on a copy of the tree without
-crates/*/must-fail, since rt ci tries edits one after another. All else of it is as strict as on the tree itself."""
+"""Every crate proved from nothing, and the programs run: rt ci, on a copy of the tree without crates/*/must-fail, since rt ci tries
+edits one after another, and without the crates of scenes and benches, which are compiled with checks. All else of it is as strict as on
+the tree itself."""
 import os
 import re
 import shutil
 import subprocess
 
+from gate import unproved
 from gate.programs import make_in
 from gate.times import Times
 
@@ -19,6 +21,7 @@ def files():
 
 
 def copy_tree(to):
+    """Copies the tree without its must-fail edits."""
     for file in files():
         if "/must-fail/" not in file:
             os.makedirs(os.path.dirname(f"{to}/{file}"), exist_ok=True)
@@ -26,6 +29,15 @@ def copy_tree(to):
     make_in(to)
     # (rt ci holds its lock there)
     subprocess.run(["git", "init", "-q", to], check=True)
+
+
+def copy_proved(to):
+    """Copies what is proved."""
+    copy_tree(to)
+    for it in unproved.listed():
+        shutil.rmtree(f"{to}/crates/{it}")
+    with open(f"{to}/crates.txt", "w", encoding="utf-8") as it:
+        it.writelines(unproved.proved_lines())
 
 
 def show(report, line):
@@ -62,7 +74,7 @@ def faults(said):
 
 def prove(report, tree):
     """Proves and runs all in a copy of the tree, and leaves there what was proved, programs linked."""
-    copy_tree(tree)
+    copy_proved(tree)
     with Times() as times:
         said = run_and_log(report, tree)
     times.keep(TIMES)

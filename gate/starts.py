@@ -1,8 +1,7 @@
-"""How the programs and ./prove start: by the proved program where it stands and is newer than its sources, else unproved with
-one line that says so, and one clear line with a status of its own where that can't be.
+"""How the programs and ./prove start: by the proved program where it stands and is newer than its sources, else by the one compiled with
+checks, which is kept, with one line that says so, and one clear line with a status of its own where that can't be.
 
-It tries the repository's own scripts in a small tree of their own, with a stand-in for rt that gives a stored answer of
-`rt try`. Only what needs a real check takes the real rt."""
+It tries the repository's own scripts in a small tree of their own. Where only the start matters, a script stands for a program."""
 import fcntl
 import os
 import pty
@@ -27,12 +26,11 @@ PROVABLE = f"//! A number.\n#![tactic(auto)]\n\n/// Gives half of it.\npub fn ha
 OTHER = PROVABLE.replace("half", "third").replace("n / 2", "n / 3")
 WRONG = PROVABLE.replace("n / 2", "2 / n")
 MAIN = "//! Prints nothing.\n#![tactic(auto)]\n\nfn main(_rt: HostRuntime) {}\n"
-UNPROVED = "histar: not proved yet: this run is compiled with checks, which takes some minutes; ./prove builds the proved program\n"
-NEEDS = "needs the proved program, which ./prove builds\n"
-ANSWERED = "run=ended status=1 runners=1 races=unchecked proved=no"
+# What a start says of a program that is not proved: where it compiles it, and where it is kept.
+COMPILED = "histar: not proved yet: compiled with checks, which takes some minutes once; ./prove builds the proved program\n"
+UNPROVED = "histar: not proved yet: compiled with checks; ./prove builds the proved program\n"
 # What ./prove says of a crate that it has proved: the crate, and how many were kept.
 IS_PROVED = re.compile(r"prove: (\w+) is proved; kept from before: (\d+); ")
-STAND_IN = "#!/bin/sh\necho \"$*\"; echo 'checked: ended status=1' >&2; echo '{said}' >&2; exit 1\n"
 
 
 def write(file, text):
@@ -42,14 +40,14 @@ def write(file, text):
 
 
 class Tree:
-    """A small tree with the scripts that start programs, and a folder of commands with a stand-in for rt."""
+    """A small tree with the scripts that start programs."""
 
     def __init__(self, room):
-        self.room, self.top, self.commands = room, f"{room}/tree", f"{room}/commands"
+        self.room, self.top = room, f"{room}/tree"
         os.makedirs(f"{self.top}/gate")
         for it in ("histar", "histar-audit", "histar-show", "start.sh", "prove", "HANDLES", "VERSION"):
             shutil.copy2(it, f"{self.top}/{it}")
-        for it in ("programs", "report", "stages", "times", "toolchain", "usage", "versions"):
+        for it in ("programs", "report", "stages", "times", "toolchain", "unproved", "usage", "versions"):
             shutil.copy2(f"gate/{it}.py", f"{self.top}/gate/{it}.py")
         for it in ("gate/answer.sh", "gate/wrap.awk", "cases/words"):
             subprocess.run(["cp", "-r", "--parents", it, self.top], check=True)
@@ -58,21 +56,20 @@ class Tree:
         for it in PROGRAMS:
             write(f"{self.top}/crates/{it}/src/main.rt", MAIN)
             write(f"{self.top}/crates/{it}/stdin", "")
-        self.stand_in(ANSWERED)
 
-    def stand_in(self, said):
-        """Puts a stand-in for rt on the path: it prints the words that it was given, and ends with status 1."""
-        write(f"{self.commands}/rt", STAND_IN.format(said=said))
-        os.chmod(f"{self.commands}/rt", 0o755)
+    def program_by_hand(self, name, does='echo "proved $*"', folder="", later=0):
+        """Puts a script where ./prove would build a program, or where one compiled with checks is kept, so many seconds from now."""
+        made, when = f"{self.top}/crates/{name}/out/{folder}{name}", time.time() + later
+        write(made, f"#!/bin/sh\n{does}\n")
+        os.chmod(made, 0o755)
+        os.utime(made, (when, when))
 
-    def prove_by_hand(self, name, does='echo "proved $*"'):
-        """Puts a program where ./prove would build it: it prints its words, or does something else."""
-        write(f"{self.top}/crates/{name}/out/{name}", f"#!/bin/sh\n{does}\n")
-        os.chmod(f"{self.top}/crates/{name}/out/{name}", 0o755)
+    def unproved_by_hand(self, name, later=0):
+        self.program_by_hand(name, 'echo "unproved $*"; [ -t 0 ] || cat; exit 3', "unproved/", later)
 
     def start(self, *words, has_rt=True, given=""):
         """How a command of the tree ended: status, standard output, standard error."""
-        path = f"{self.commands}:{os.environ['PATH']}" if has_rt else "/usr/bin:/bin"
+        path = os.environ["PATH"] if has_rt else "/usr/bin:/bin"
         how = {"cwd": self.top, "env": {**os.environ, "PATH": path}, "input": given, "capture_output": True, "text": True}
         done = subprocess.run(words, **how)
         return done.returncode, done.stdout, done.stderr
@@ -100,8 +97,7 @@ def shown_at_terminal(words, columns=80, typed=(), **how):
 
 def at_terminal(tree, words, columns=80, typed=()):
     """The same of a command of the tree."""
-    env = {**os.environ, "PATH": f"{tree.commands}:{os.environ['PATH']}", "TERM": "xterm"}
-    return shown_at_terminal(words, columns, typed, cwd=tree.top, env=env)
+    return shown_at_terminal(words, columns, typed, cwd=tree.top, env={**os.environ, "TERM": "xterm"})
 
 
 def is_wrapped(report, command, shown, last, columns=40):
@@ -119,34 +115,44 @@ def unproved_of(program):
     return UNPROVED.replace("histar:", f"{program}:")
 
 
-def try_unproved(report, tree):
-    """The programs without what ./prove builds: each word that is a file is handed over, and none is written."""
-    write(f"{tree.top}/script", "")
-    given = f"try --data script={os.path.realpath(tree.top)}/script --"
-    for words in (("run", "script", "--pages", "8"), ("run", "--pages", "8", "script"), ("check", "script")):
-        expect(report, f"./histar {' '.join(words)} unproved", tree.start("./histar", *words), (1, f"{given} {' '.join(words)}\n", UNPROVED))
-    outside = os.path.realpath(f"{tree.top}/script")
-    expect(report, "./histar unproved, a script by its whole path", tree.start("./histar", "run", outside), (1, f"{given} run script\n", UNPROVED))
-    expect(report, "./histar unproved, no such script", tree.start("./histar", "run", "none"), (1, "try -- run none\n", UNPROVED))
-    write(f"{tree.top}/names", "")
-    for words in (("tree", "script", "--names", "names"), ("tree", "script", "--names=names")):
-        handed = f"{given.removesuffix(' --')} --data names={os.path.realpath(tree.top)}/names -- show tree script --names names\n"
-        expect(report, f"./histar-show {' '.join(words)} unproved", tree.start("./histar-show", *words), (1, handed, UNPROVED))
+def try_kept(report, tree):
+    """Programs that were compiled with checks and are kept: they get all words, and their input as it comes, and may write files."""
+    for it in PROGRAMS:
+        tree.unproved_by_hand(it)
+    for words in ("histar run script --dump d", "histar run --names=n script", "histar-audit script --migrate=d", "histar show page d --out e", "histar try"):
+        program, *rest = words.split()
+        ended = tree.start(f"./{program}", *rest, given="save c\n", has_rt=False)
+        expect(report, f"./{words} unproved", ended, (3, f"unproved {' '.join(rest)}\nsave c\n", unproved_of(program)))
+    ended = tree.start("./histar-show", "tree", "d")
+    expect(report, "./histar-show unproved", ended, (3, "unproved show tree d\n", UNPROVED))
+    shutil.rmtree(f"{tree.top}/crates/histar/out")
+
+
+def try_compiled(report, tree):
+    """A program that is compiled with checks: once, and again only for other sources."""
     no_rt = (69, "", "histar: rt (the Rattle toolchain) is not on the path\n")
-    expect(report, "./histar without rt", tree.start("./histar", "run", "script", has_rt=False), no_rt)
-    expect(report, "./histar try unproved", tree.start("./histar", "try"), (1, "try -- try\n", UNPROVED))
-    save = (78, "", f"{UNPROVED}histar: save {NEEDS}")
-    expect(report, "./histar try unproved, with save", tree.start("./histar", "try", given="save c\n"), save)
-    for program, words in (("histar", ("run", "script", "--dump", "d")), ("histar", ("run", "script", "--names=n")), ("histar-audit", ("script", "--migrate=d")), ("histar", ("show", "page", "script", "--out", "d"))):
-        option = next(it for it in words if it.startswith("--")).partition("=")[0]
-        wanted = (78, "", f"{unproved_of(program)}{program}: {option} {NEEDS}")
-        expect(report, f"./{program} {' '.join(words)} unproved", tree.start(f"./{program}", *words), wanted)
-        read = (1, f"{given} {' '.join(words[: words.index('script') + 1])}\n", unproved_of(program))
-        expect(report, f"./{program} unproved, nothing written", tree.start(f"./{program}", *words[: words.index("script") + 1]), read)
-    tree.stand_in("run=none proved=no")
-    no_answer = f"{UNPROVED}histar: the unproved run gave no answer: run=none proved=no\n"
-    expect(report, "./histar unproved, no answer", tree.start("./histar", "run", "none"), (70, "try -- run none\n", no_answer))
-    tree.stand_in(ANSWERED)
+    expect(report, "./histar without rt", tree.start("./histar", "run", "none", has_rt=False), no_rt)
+    write(f"{tree.top}/crates/histar/out", "")
+    status, _, said = tree.start("./histar", "run", "none")
+    report.counts(status == 73 and said.startswith(COMPILED), f"./histar where nothing can be kept: status {status}, {said.strip()}")
+    os.remove(f"{tree.top}/crates/histar/out")
+    expect(report, "./histar compiled with checks", tree.start("./histar", "run", "none"), (0, "", COMPILED))
+    began = time.monotonic()
+    ended = tree.start("./histar", "run", "none", has_rt=False)
+    taken = time.monotonic() - began
+    expect(report, "./histar as kept, without rt", ended, (0, "", UNPROVED))
+    report.counts(taken < 2, f"./histar as kept takes {taken:.2f} s, at most 2")
+    source = f"{tree.top}/crates/histar/src/main.rt"
+    write(source, MAIN.replace("fn main", "fn main main"))
+    later = time.time() + 1
+    os.utime(source, (later, later))
+    status, _, said = tree.start("./histar", "run", "none")
+    is_well = status == 70 and said.startswith(COMPILED) and "error" in said and said.endswith("histar: the sources were not compiled\n")
+    report.counts(is_well, f"./histar of sources that are wrong: status {status}")
+    write(source, MAIN)
+    os.utime(source, (1, 1))
+    expect(report, "./histar of the sources as they were", tree.start("./histar", "run", "none"), (0, "", UNPROVED))
+    shutil.rmtree(f"{tree.top}/crates/histar/out")
 
 
 def try_help(report, tree):
@@ -165,21 +171,22 @@ def try_arrows(report, tree):
     if not shutil.which("rlwrap"):
         report.say("left out: arrow keys: rlwrap is not on the path")
         return
-    tree.prove_by_hand("histar", 'while read -r line && [ "$line" != quit ]; do echo "read $line"; done')
+    tree.program_by_hand("histar", 'while read -r line && [ "$line" != quit ]; do echo "read $line"; done')
     shown = at_terminal(tree, ("./histar", "try"), typed=(b"tree\n", b"\x1b[A\n", b"quit\n"))
     report.counts(shown.count("read tree") == 2, f"./histar try: an arrow key gives a line back: {shown!r}")
-    tree.prove_by_hand("histar")
+    tree.program_by_hand("histar")
 
 
 def try_proved(report, tree):
     """The programs where what ./prove builds stands, and is older than a source."""
     for it in PROGRAMS:
-        tree.prove_by_hand(it)
+        tree.program_by_hand(it)
     for command in ("./histar run script --dump d", "./histar check script", "./histar try --pages 8", "./histar-audit d", "./histar show why d"):
         program, *words = command.split()
         expect(report, f"{command} proved", tree.start(program, *words), (0, f"proved {' '.join(words)}\n", ""))
-    proved, unproved = (0, "proved run none\n", ""), (1, "try -- run none\n", UNPROVED)
+    proved, unproved = (0, "proved run none\n", ""), (3, "unproved run none\n", UNPROVED)
     source, later = f"{tree.top}/crates/low/src/lib.rt", time.time() + 60
+    tree.unproved_by_hand("histar", later=120)
     os.utime(source, (later, later))
     expect(report, "./histar older than a source", tree.start("./histar", "run", "none"), unproved)
     os.utime(source, (1, 1))
@@ -192,28 +199,24 @@ def try_proved(report, tree):
     write(f"{tree.top}/crates.txt", CRATES + "more:\n")
     expect(report, "./histar older than crates.txt", tree.start("./histar", "run", "none"), unproved)
     write(f"{tree.top}/crates.txt", CRATES)
-    tree.prove_by_hand("histar")
+    tree.program_by_hand("histar")
 
 
 def failures_of_play(tree, status, out):
     """How many failures the stage that plays scripts tells of a run that should end with this status and output."""
     script, told = plays.Script("none.histar"), Report(is_silent=True)
     script.status, script.out = status, out
-    path = os.environ["PATH"]
-    os.environ["PATH"] = f"{tree.commands}:{path}"
-    try:
-        script.play(told, (f"{tree.top}/histar",))
-    finally:
-        os.environ["PATH"] = path
+    script.play(told, (f"{tree.top}/histar",))
     return len(told.failures)
 
 
 def try_gate(report, tree):
     """The stage that plays scripts takes no unproved run for a proved one, though its status and standard output are right."""
-    tree.prove_by_hand("histar")
+    tree.program_by_hand("histar")
     proved = failures_of_play(tree, 0, "proved run none.histar\n")
     shutil.rmtree(f"{tree.top}/crates/histar/out")
-    unproved = failures_of_play(tree, 1, "try -- run none.histar\n")
+    tree.unproved_by_hand("histar")
+    unproved = failures_of_play(tree, 3, "unproved run none.histar\n")
     report.counts((proved, unproved) == (0, 1), "the stage that plays scripts passes a proved run, and fails with the program taken away")
 
 
@@ -363,7 +366,6 @@ def try_full_disk(report, tree, room):
 
 def try_checks(report, tree, room):
     """./prove with the real rt."""
-    os.remove(f"{tree.commands}/rt")
     shutil.rmtree(f"{tree.top}/out")
     for it in PROGRAMS:
         shutil.rmtree(f"{tree.top}/crates/{it}/out", ignore_errors=True)
@@ -376,7 +378,8 @@ def try_checks(report, tree, room):
 def start(report):
     with tempfile.TemporaryDirectory(prefix="starts-") as room:
         tree = Tree(room)
-        try_unproved(report, tree)
+        try_compiled(report, tree)
+        try_kept(report, tree)
         try_help(report, tree)
         try_proved(report, tree)
         try_arrows(report, tree)

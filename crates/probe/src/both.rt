@@ -9,12 +9,12 @@ use arena::{Replies, asked_again};
 use base::{Limits, NoMemory};
 use call_text::{Script, ScriptError, read_script};
 use compared::{differing_step, put_steps};
+use happy_calls::samples::are_equal;
 use plain::{Played, play};
 use program_io::{Fault, bytes_of};
 use std::alloc::Global;
 use std::io::{Read, Write};
 use storm::parted;
-use test_structures::samples::are_equal;
 
 /// What is told of a script.
 #[derive(Clone, Copy)]

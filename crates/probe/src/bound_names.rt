@@ -2,9 +2,9 @@
 use anyhow::Result;
 use base::{Category, ObjectId};
 use call_text::{Known, Named, Value};
+use happy_calls::look::Look;
 use script_runner::BoundNames;
 use std::alloc::Global;
-use test_structures::look::Look;
 use text_words::Name;
 
 /// Whether the names answer as a list of them would.

@@ -1,7 +1,7 @@
 //! Laws that stand on contracts. They can be called.
 use base::live_by_path;
+use happy_calls::look::Look;
 use label_lattice::laws;
-use test_structures::look::Look;
 
 fn of_labels() {
     laws::agreeing_labels_are_one();

@@ -20,13 +20,13 @@ mod texts;
 
 use anyhow::Result;
 use base::NoMemory;
+use happy_calls::look::Look;
 use program_args::{Verb, read_words, tell_answer};
 use program_io::{Counted, DEFAULTS, Fault, Sink, deliver, open_input, words_of};
 use std::alloc::Global;
 use std::io;
 use std::io::Write;
 use std::process::ExitCode;
-use test_structures::look::Look;
 use text_words::read_number;
 use texts::{Again, Kind, written_again};
 

@@ -3,8 +3,8 @@ use anyhow::Result;
 use auditor::clean_dumps::DumpFault;
 use call_text::ScriptError;
 use dump_text::{DumpError, MigrateFault};
+use happy_calls::look::{Look, agree};
 use published_copy::{BootRefusal, SeatRefusal, SubmitRefusal, Unread};
-use test_structures::look::{Look, agree};
 
 fn of_texts(look: &mut Look) {
     look.part("of_texts");

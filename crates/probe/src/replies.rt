@@ -1,11 +1,11 @@
 //! A reply of each kind, as text.
 use base::{Category, Data, Level, Meter, NoMemory, ObjectId, Refusal, Rights};
 use call_text::{NameList, Named, Value, put_made, write_reply};
+use happy_calls::samples::{in_root, no_entry, pair, plain};
 use kernel_rules::{Ids, Mapping, Reply};
 use label_lattice::label_rules::stored_of;
 use label_lattice::{Label, RawLabel};
 use std::alloc::Global;
-use test_structures::samples::{in_root, no_entry, pair, plain};
 use text_words::Name;
 
 /// The root under two names, and a category.

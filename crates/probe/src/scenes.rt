@@ -1,12 +1,13 @@
 //! The scenes by their names.
 use crate::{bound_names, laws, numbers, streams};
 use anyhow::Result;
+use happy_calls::logged;
+use happy_calls::look::Look;
 use std::alloc::Global;
 use std::sync::Wait;
 use std::thread::Threads;
 use test_kernels::{arena, seats};
 use test_states::{findings, hand_overs, looks, plain, restored, state};
-use test_structures::look::Look;
 use test_structures::{structures, words};
 
 /// Scenes of words, labels, states, texts and streams. False where none is of that name.
@@ -148,7 +149,7 @@ fn of_structures_again(alloc: Global, scene: &str, look: &mut Look) -> Result<bo
 /// Scenes of kernels, made again.
 fn of_kernels_again(alloc: Global, scene: &str, look: &mut Look) -> Result<bool> {
     if scene == "logged" {
-        arena::logged::again(alloc, look)?;
+        logged::again(alloc, look)?;
     } else if scene == "plain_memory" {
         plain::memory::again(alloc, look)?;
     } else if scene == "restored_memory" {

@@ -1,11 +1,11 @@
 //! Texts that are written whole, or by their beginnings, and inputs that fail amid them.
 use crate::breaking::{Breaking, Holding, Portions};
 use anyhow::{Result, bail};
+use happy_calls::look::{Look, agree};
 use program_io::{Counted, Fault, PutFault, Sink, bytes_of, deliver, input_fault, put};
 use std::alloc::Global;
 use std::io;
 use std::io::{ErrorKind, Write};
-use test_structures::look::{Look, agree};
 
 /// 30 bytes: four writes of seven, and one of two.
 const TEXT: &[u8] = b"boot 1: cat #1\nboot 2: id #4\n ";

@@ -4,15 +4,15 @@ use base::{Level, Meter, NoMemory, ObjectId, Refusal};
 use explained::{
     Comparison, Failing, Finding, Part, Rank, Ranks, explain, explain_query, refusal_among,
 };
+use happy_calls::look::{Look, agree};
+use happy_calls::samples::{
+    LIMITS, boot_thread, everywhere, in_root, label_with, new_segment, new_thread, plain,
+    refusal_in,
+};
 use kernel_calls::{ask, step};
 use kernel_rules::{Call, Mapping, NewAddressSpace, Query};
 use plain_state::PlainState;
 use std::alloc::Global;
-use test_structures::look::{Look, agree};
-use test_structures::samples::{
-    LIMITS, boot_thread, everywhere, in_root, label_with, new_segment, new_thread, plain,
-    refusal_in,
-};
 
 /// Makes a call.
 fn make(state: &mut PlainState, call: &Call, meter: &mut Meter) -> Result<(), NoMemory> {

@@ -3,12 +3,12 @@
 use anyhow::{Result, bail};
 use base::{Category, Data, Level, Limits, ObjectId};
 use flows::{FlowFault, Step, check_flows, flows_of};
+use happy_calls::look::Look;
+use happy_calls::samples::{LIMITS, boot_thread, in_root, label_with, new_segment};
 use kernel_rules::{Call, NewThread, Query};
 use label_lattice::RawLabel;
 use plain_state::PlainState;
 use std::alloc::Global;
-use test_structures::look::Look;
-use test_structures::samples::{LIMITS, boot_thread, in_root, label_with, new_segment};
 
 fn secret() -> RawLabel {
     label_with(Level::L3, Level::L1)

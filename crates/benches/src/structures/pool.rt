@@ -1,6 +1,4 @@
 //! Interned labels with a count of their owners.
-ghost use Rattle.std.specs.Prelude.{◌≡◌, ◌<◌, ◌^◌, length};
-ghost use Rattle.label_intern.specs.Held.{owned};
 
 use base::{Category, Level, Meter, NoMemory};
 use label_intern::{LabelIx, Labels, OrderBits};
@@ -13,15 +11,11 @@ pub struct Pool {
     labels: Labels,
     size: usize,
     owners: usize,
-    ghost size_is: { length labels ≡ size },
-    ghost owners_are: { owned labels ≡ owners },
 }
 
 impl Pool {
     /// No label, in so many indexes.
-    pub fn boot(alloc: Global, size: usize) -> Result<Pool, NoMemory>
-        requires { size < 2 ^ 16 }
-    {
+    pub fn boot(alloc: Global, size: usize) -> Result<Pool, NoMemory> {
         let labels = Labels::boot(alloc, size)?;
         Ok(Pool {
             labels,

@@ -1,8 +1,8 @@
 //! The rows of translation that the arena kernel keeps.
 use base::{Meter, ObjectId};
+use happy_calls::samples::is_shown;
 use kernel_rules::Shown;
 use syscall_core::{Kernel, Tables};
-use test_structures::samples::is_shown;
 
 /// How many slots of a thread there can be, and one more.
 const SLOTS: u32 = 17;

@@ -3,10 +3,10 @@ use super::plain::Step;
 use super::rows::keeps_rows;
 use base::{Limits, Meter, NoMemory};
 use call_text::Asked;
+use happy_calls::samples::are_equal;
 use plain_core::{Machine, PlainKernel};
 use std::alloc::Global;
 use syscall_core::Kernel;
-use test_structures::samples::are_equal;
 
 /// Makes a step on both, where it is a call.
 fn step_both(

@@ -1,11 +1,11 @@
 //! Cases, each played on a kernel of its own, which is booted and dropped here alone: what owns a kernel is long to prove.
-use super::metered::Metered;
 use super::{kept, run, scans};
 use anyhow::Result;
 use base::Limits;
+use happy_calls::look::Look;
+use happy_calls::metered::Metered;
+use happy_calls::samples::LIMITS;
 use std::alloc::Global;
-use test_structures::look::Look;
-use test_structures::samples::LIMITS;
 
 /// What is played on a booted kernel.
 #[derive(Clone, Copy)]

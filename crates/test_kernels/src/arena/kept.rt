@@ -1,14 +1,14 @@
 //! What the arena kernel keeps, after a boot and a call.
 use super::cases::{Case, play_case};
-use super::metered::Metered;
 use anyhow::Result;
 use base::{NoMemory, ObjectId};
+use happy_calls::look::{Look, agree};
+use happy_calls::metered::Metered;
+use happy_calls::samples::{boot_thread, device};
 use label_intern::LabelIx;
 use std::alloc::Global;
 use std::thread::Threads;
 use syscall_core::{Call, Reply};
-use test_structures::look::{Look, agree};
-use test_structures::samples::{boot_thread, device};
 
 /// Threads, uses and live objects.
 pub fn booted(look: &mut Look, kernel: &mut Metered) {

@@ -1,12 +1,12 @@
 //! A list of calls that is run on the arena kernel.
 use super::cases::{Case, play_case};
-use super::metered::Metered;
 use anyhow::Result;
 use base::{Category, NoMemory};
+use happy_calls::look::Look;
+use happy_calls::metered::Metered;
+use happy_calls::samples::boot_thread;
 use std::alloc::Global;
 use syscall_core::{Call, Reply};
-use test_structures::look::Look;
-use test_structures::samples::boot_thread;
 
 /// Two categories are made.
 pub fn run_two(look: &mut Look, alloc: Global, kernel: &mut Metered) -> Result<(), NoMemory> {

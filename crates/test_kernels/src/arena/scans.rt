@@ -1,15 +1,15 @@
 //! How many labels calls of the arena kernel scan, and how many cells they read, by a meter.
 use super::cases::{Case, play_case};
-use super::metered::Metered;
 use anyhow::Result;
 use base::{Data, Level, NoMemory, ObjectId};
+use happy_calls::look::{Look, agree};
+use happy_calls::metered::Metered;
+use happy_calls::samples::{
+    everywhere, in_root, new_container, new_segment, new_thread, no_entry, plain,
+};
 use kernel_rules::{Entry, NewGate};
 use std::alloc::Global;
 use syscall_core::{Call, Query};
-use test_structures::look::{Look, agree};
-use test_structures::samples::{
-    everywhere, in_root, new_container, new_segment, new_thread, no_entry, plain,
-};
 
 /// A call that makes a gate with the clearance {2} and without an address space.
 fn new_gate() -> Call {

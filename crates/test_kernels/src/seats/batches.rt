@@ -4,16 +4,16 @@ use super::cases::{Case, play_case};
 use super::samples::{asked, event_count, open_segment, passed, seated, submitted};
 use anyhow::Result;
 use base::ObjectId;
+use happy_calls::look::Look;
+use happy_calls::samples::{
+    boot_thread, in_root, is_done, is_number, is_object, new_container, new_thread,
+};
 use kernel_rules::{Call, Query, Reply};
 use published_copy::{BatchReceipt, Naming, Seat, Shared, SubmitRefusal};
 use std::alloc::{AllocError, Global};
 use std::sync::{Mutex, Wait};
 use std::thread;
 use std::thread::Threads;
-use test_structures::look::Look;
-use test_structures::samples::{
-    boot_thread, in_root, is_done, is_number, is_object, new_container, new_thread,
-};
 
 /// What a batch through a seat answers.
 fn batched<B: Naming, R: Wait>(

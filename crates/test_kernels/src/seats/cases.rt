@@ -1,17 +1,16 @@
 //! Cases, each played on a kernel of its own, which is booted, opened and closed here alone: what owns a kernel is long to
 //! prove.
-ghost use Rattle.std.specs.Prelude.{◌≡◌};
 
 use super::samples::event_count;
 use super::{batches, few_seats, memory, notes, readers, seats, threads, told};
 use anyhow::Result;
+use happy_calls::look::Look;
+use happy_calls::samples::MOST_PAGES;
 use published_copy::{Boot, BootRefusal, Naming, Shared};
 use std::alloc::Global;
 use std::marker::Brand;
 use std::sync::Wait;
 use std::thread::Threads;
-use test_structures::look::Look;
-use test_structures::samples::MOST_PAGES;
 
 /// What is played on a kernel that threads share.
 #[derive(Clone, Copy)]
@@ -84,9 +83,7 @@ fn play_on<B: Naming + Send + Sync, R: Threads + Wait + Sync>(
     alloc: Global,
     boot: Boot,
     case: Case,
-) -> Result<()>
-    requires { boot ≡ B.boot }
-{
+) -> Result<()> {
     let shared = boot.open::<B>();
     let outcome = play_at(rt, look, alloc, &shared, case);
     let count = event_count(rt, &shared);

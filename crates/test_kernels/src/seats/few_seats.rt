@@ -3,12 +3,12 @@ use super::cases::{Case, play_case};
 use super::samples::{is_refused, seated};
 use anyhow::Result;
 use base::ObjectId;
+use happy_calls::look::Look;
+use happy_calls::samples::{boot_thread, is_object, new_thread};
 use kernel_rules::{Call, Query, Reply};
 use published_copy::{Naming, Seat, Shared};
 use std::sync::Wait;
 use std::thread::Threads;
-use test_structures::look::Look;
-use test_structures::samples::{boot_thread, is_object, new_thread};
 
 /// Whether a call makes this object, as the event of this number.
 fn makes<B: Naming, R: Wait>(

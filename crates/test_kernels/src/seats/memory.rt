@@ -6,12 +6,12 @@ use super::samples::{
 };
 use anyhow::Result;
 use base::ObjectId;
+use happy_calls::look::Look;
+use happy_calls::samples::{boot_thread, in_root, is_object, new_thread};
 use kernel_rules::{Call, Query, Reply};
 use published_copy::{BatchReceipt, BookGuard, Naming, Pass, Receipt, Seat, Shared, SubmitRefusal};
 use std::sync::Wait;
 use std::thread::Threads;
-use test_structures::look::Look;
-use test_structures::samples::{boot_thread, in_root, is_object, new_thread};
 
 /// A call that is made again where there was no memory. None where the refusal was another one, or
 /// changed the journal.

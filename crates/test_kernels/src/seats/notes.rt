@@ -5,12 +5,12 @@ use super::samples::{
 };
 use anyhow::Result;
 use base::{Data, ObjectId};
+use happy_calls::look::Look;
+use happy_calls::samples::{boot_thread, new_thread};
 use published_copy::{Naming, Note, Seat, Shared};
 use std::sync::{Mutex, Wait};
 use std::thread;
 use std::thread::Threads;
-use test_structures::look::Look;
-use test_structures::samples::{boot_thread, new_thread};
 
 /// What a seat that learns a note reads then, in its own thread.
 fn learn_and_read<B: Naming, R: Wait>(

@@ -6,6 +6,8 @@ use super::samples::{
 };
 use anyhow::Result;
 use base::{Data, Meter, ObjectId};
+use happy_calls::look::Look;
+use happy_calls::samples::{MOST_PAGES, boot_thread, new_thread};
 use kept_events::events_of;
 use kernel_rules::Reply;
 use kernel_rules::histories::Event;
@@ -15,8 +17,6 @@ use std::sync::{Mutex, Wait};
 use std::thread;
 use std::thread::Threads;
 use syscall_core::{Machine, PlainKernel};
-use test_structures::look::Look;
-use test_structures::samples::{MOST_PAGES, boot_thread, new_thread};
 
 /// How many threads read, and how often each.
 const READERS: u64 = 3;

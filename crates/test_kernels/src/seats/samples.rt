@@ -2,13 +2,13 @@
 //! has no contract here: a scene sees what it wants, and the prover need not carry the rest.
 use anyhow::Result;
 use base::{Data, Level, ObjectId};
+use happy_calls::look::Look;
+use happy_calls::samples::{everywhere, in_root, is_object, new_segment, new_thread};
 use kernel_rules::{Call, Query, Reply};
 use published_copy::{
     BookGuard, Naming, Pass, Receipt, Seat, SeatRefusal, Shared, SubmitRefusal, Unread,
 };
 use std::sync::Wait;
-use test_structures::look::Look;
-use test_structures::samples::{everywhere, in_root, is_object, new_segment, new_thread};
 
 /// A call that makes a segment of one page that everyone observes.
 pub fn open_segment() -> Call {

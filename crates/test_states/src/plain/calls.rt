@@ -3,14 +3,14 @@ use super::cases::{Case, play_case};
 use super::samples::{make, secret};
 use anyhow::{Result, bail};
 use base::{Category, Data, Meter, NoMemory, Refusal};
+use happy_calls::look::{Look, agree};
+use happy_calls::samples::{
+    LIMITS, answered, boot_thread, in_root, is_object, new_container, new_segment,
+};
 use plain_core::{
     BootRefusal, Call, Entry, Machine, Mapping, NewSegment, PlainKernel, Query, Reply, run,
 };
 use std::alloc::Global;
-use test_structures::look::{Look, agree};
-use test_structures::samples::{
-    LIMITS, answered, boot_thread, in_root, is_object, new_container, new_segment,
-};
 
 /// What refuses a read of the boot thread.
 fn refused(

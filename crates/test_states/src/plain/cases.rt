@@ -3,10 +3,10 @@ use super::samples::booted_again;
 use super::{calls, memory};
 use anyhow::Result;
 use base::Meter;
+use happy_calls::look::Look;
+use happy_calls::samples::meter_again;
 use plain_core::PlainKernel;
 use std::alloc::Global;
-use test_structures::look::Look;
-use test_structures::samples::meter_again;
 
 /// What is played on a booted kernel.
 #[derive(Clone, Copy)]

@@ -3,13 +3,13 @@ use super::cases::{Case, play_case};
 use super::samples::{ask_again, new_space, secret, step_again};
 use anyhow::Result;
 use base::{Category, Data, Level, Meter, NoMemory, ObjectId};
-use plain_core::{Call, NewCopy, NewGate, PlainKernel, Query, Reply, run};
-use std::alloc::Global;
-use test_structures::look::Look;
-use test_structures::samples::{
+use happy_calls::look::Look;
+use happy_calls::samples::{
     boot_thread, in_root, is_data, is_done, is_number, is_object, label_with, new_container,
     new_segment, new_thread, no_entry, plain,
 };
+use plain_core::{Call, NewCopy, NewGate, PlainKernel, Query, Reply, run};
+use std::alloc::Global;
 
 /// Where an allocation is refused, the state before stands.
 pub fn want(

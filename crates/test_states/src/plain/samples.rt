@@ -1,11 +1,11 @@
 //! A plain kernel, and calls on it.
 use anyhow::Result;
 use base::{Level, Meter, NoMemory, ObjectId};
+use happy_calls::look::Look;
+use happy_calls::samples::{LIMITS, boot_thread, label_with, plain};
 use label_lattice::RawLabel;
 use plain_core::{BootRefusal, Call, Machine, NewAddressSpace, PlainKernel, Query, Reply};
 use std::alloc::Global;
-use test_structures::look::Look;
-use test_structures::samples::{LIMITS, boot_thread, label_with, plain};
 
 /// A kernel, booted once more where the first boot had no memory.
 pub fn booted_again(alloc: Global) -> Result<PlainKernel, BootRefusal> {
@@ -35,7 +35,7 @@ pub fn make(
     call: &Call,
     meter: &mut Meter,
 ) -> Result<Option<ObjectId>, NoMemory> {
-    test_structures::samples::made(kernel.step(boot_thread(), call, meter))
+    happy_calls::samples::made(kernel.step(boot_thread(), call, meter))
 }
 
 /// What the boot thread's call answers, made once more where there was no memory for it.

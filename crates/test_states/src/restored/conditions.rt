@@ -2,10 +2,10 @@
 use super::samples::{booted, outcome};
 use anyhow::Result;
 use base::Data;
+use happy_calls::look::{Look, agree};
+use happy_calls::samples::LIMITS;
 use plain_core::RawBody;
 use std::alloc::Global;
-use test_structures::look::{Look, agree};
-use test_structures::samples::LIMITS;
 
 // Metadata are 64 bytes.
 fn short_metadata(alloc: Global, look: &mut Look) -> Result<()> {

@@ -3,10 +3,10 @@ use super::played_on::begun;
 use super::samples::{after, events_of, list_of, outcome};
 use anyhow::Result;
 use base::{Limits, NoMemory, ObjectId};
+use happy_calls::look::{Look, agree};
+use happy_calls::samples::LIMITS;
 use plain_core::{Checkpoint, Event, RawBody};
 use std::alloc::Global;
-use test_structures::look::{Look, agree};
-use test_structures::samples::LIMITS;
 
 // The checkpoint, made once more where there was no memory.
 fn after_again(alloc: Global, limits: &Limits, events: &[Event]) -> Result<Checkpoint, NoMemory> {

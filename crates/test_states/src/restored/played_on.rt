@@ -2,14 +2,14 @@
 use super::samples::{add_event, after, events_of, outcome};
 use anyhow::{Result, bail};
 use base::{Data, Level, Meter, NoMemory, ObjectId, Rights};
-use kernel_rules::{Call, Mapping, NewAddressSpace, NewGate, NewSegment, Reply};
-use plain_core::{Machine, PlainKernel};
-use std::alloc::Global;
-use test_structures::look::{Look, agree};
-use test_structures::samples::{
+use happy_calls::look::{Look, agree};
+use happy_calls::samples::{
     LIMITS, are_equal, boot_thread, in_root, label_with, new_container, new_segment, new_thread,
     no_entry, plain,
 };
+use kernel_rules::{Call, Mapping, NewAddressSpace, NewGate, NewSegment, Reply};
+use plain_core::{Machine, PlainKernel};
+use std::alloc::Global;
 
 /// What the boot thread does before the checkpoint: a category, a container, a segment, an address
 /// space with a mapping, a gate, a thread, a packet.

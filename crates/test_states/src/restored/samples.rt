@@ -1,11 +1,11 @@
 //! Checkpoints to restore.
 use anyhow::Result;
 use base::{Limits, NoMemory, ObjectId};
+use happy_calls::look::Look;
+use happy_calls::samples::{LIMITS, boot_thread};
 use kernel_rules::{Call, IdList, Mapping, Reply};
 use plain_core::{Answered, Checkpoint, Event, PlainKernel, RestoreFault, checkpoint};
 use std::alloc::Global;
-use test_structures::look::Look;
-use test_structures::samples::{LIMITS, boot_thread};
 
 /// Adds a call, whose reply a checkpoint doesn't read.
 fn add_call(calls: &mut Vec<Answered>, call: &Call) -> Result<(), NoMemory> {

@@ -1,9 +1,9 @@
 //! What a booted state shows.
-ghost use Rattle.std.specs.Prelude.{◌≡◌, option_copied};
-ghost use Rattle.label_lattice.specs.LabelRules as spec;
 
 use anyhow::Result;
 use base::{Kind, Level, Meter, ObjectId, Refusal, TypeSet};
+use happy_calls::look::{Look, agree};
+use happy_calls::samples::{LIMITS, boot_thread, device, everywhere, in_root, plain};
 use kernel_store::{
     NewObject, Store, avoids_object, find_all, find_container, find_entry, halted, look_at,
     new_bearer, new_object, refusal_of, space_entry,
@@ -12,8 +12,6 @@ use label_lattice::label_rules::stored_of;
 use label_lattice::{Label, RawLabel};
 use plain_state::PlainState;
 use std::alloc::Global;
-use test_structures::look::{Look, agree};
-use test_structures::samples::{LIMITS, boot_thread, device, everywhere, in_root, plain};
 
 fn limits_are_tested(alloc: Global, look: &mut Look) -> Result<()> {
     look.part("limits_are_tested");
@@ -114,9 +112,7 @@ fn segment_refusal(
     label: &RawLabel,
     stored: Option<&Label>,
     meter: &mut Meter,
-) -> Option<Refusal>
-    requires { option_copied stored ≡ spec.stored label.now }
-{
+) -> Option<Refusal> {
     let named = find_container(state, boot_thread(), ObjectId::root(), meter);
     let made = NewObject {
         kind: Kind::Segment,
@@ -134,9 +130,7 @@ fn gate_refusal(
     label: &RawLabel,
     stored: Option<&Label>,
     meter: &mut Meter,
-) -> Option<Refusal>
-    requires { option_copied stored ≡ spec.stored label.now }
-{
+) -> Option<Refusal> {
     let named = find_container(state, boot_thread(), ObjectId::root(), meter);
     let made = NewObject {
         kind: Kind::Gate,

@@ -5,12 +5,12 @@ use super::samples::{
 };
 use anyhow::Result;
 use base::{Data, Level, Meter, ObjectId, Rights};
+use happy_calls::look::{Look, agree};
+use happy_calls::samples::{LIMITS, boot_thread, device, everywhere, in_root, meter_again};
 use kernel_rules::Mapping;
 use label_lattice::label_rules::stored_of;
 use plain_state::PlainState;
 use std::alloc::Global;
-use test_structures::look::{Look, agree};
-use test_structures::samples::{LIMITS, boot_thread, device, everywhere, in_root, meter_again};
 
 fn a_segment_is_shown_through_an_address_space(alloc: Global, look: &mut Look) -> Result<()> {
     look.part("a_segment_is_shown_through_an_address_space");

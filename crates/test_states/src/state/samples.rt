@@ -1,16 +1,12 @@
 //! A state that is booted, and each change, made where it may be.
-ghost use Rattle.std.specs.Prelude.{◌≡◌, ◌≤◌, [], true, IfSome};
-ghost use Rattle.label_lattice.specs.Label.{IsStored};
-ghost use Rattle.kernel_rules.specs.State.{listed, own_cost};
-ghost use Rattle.kernel_rules.specs.WellFormed.{is_whole_body};
 
 use base::{Data, Kind, Meter, NoMemory, ObjectId, TypeSet};
+use happy_calls::samples::{LIMITS, boot_thread, in_root, plain};
 use kernel_rules::{Body, Bytes, Entry, Gate, IdList, Slots};
 use label_lattice::Label;
 use label_lattice::label_rules::stored_of;
 use plain_state::{BootRefusal, PlainState};
 use std::alloc::Global;
-use test_structures::samples::{LIMITS, boot_thread, in_root, plain};
 
 /// A state, booted once more where the first boot had no memory.
 pub fn booted_again(alloc: Global) -> Result<PlainState, BootRefusal> {
@@ -20,9 +16,7 @@ pub fn booted_again(alloc: Global) -> Result<PlainState, BootRefusal> {
     }
 }
 
-fn stored(meter: &mut Meter) -> Option<Label>
-    ensures { IfSome result IsStored }
-{
+fn stored(meter: &mut Meter) -> Option<Label> {
     stored_of(&plain(), meter)
 }
 
@@ -32,11 +26,7 @@ fn add(
     quota: u32,
     body: Body,
     meter: &mut Meter,
-) -> Result<Option<ObjectId>, NoMemory>
-    requires cost { own_cost body ≤ quota }
-    requires empty { listed body ≡ [] }
-    requires whole { is_whole_body body ≡ true }
-{
+) -> Result<Option<ObjectId>, NoMemory> {
     let root = ObjectId::root();
     if state.is_kind(Kind::Container, root)
         && !state.is_over(root, quota)

@@ -1,9 +1,4 @@
 //! Containers, each call of which tests what it needs.
-ghost use Rattle.std.specs.Prelude.{◌≡◌, ◌<◌, ◌+◌, ◌*◌, ◌%◌, ◌^◌, length, All, IsTrue};
-ghost use Rattle.std.specs.Prelude.{true};
-ghost use Rattle.base.specs.Live.{has};
-ghost use Rattle.containers.specs.Tree.{ids_in, link_count};
-ghost use Rattle.test_structures.specs.Layers.{IsLayered};
 
 use crate::containers_twin::hierarchy::{Hierarchy, is_container};
 use base::{Meter, NoMemory, ObjectId, Slot};
@@ -17,21 +12,15 @@ pub struct Guarded {
     tree: Containers<u64>,
     meter: Meter,
     pool: usize,
-    ghost pool_is: { length tree.cells ≡ pool },
-    ghost layered: { IsLayered tree.lists },
 }
 
 // Whether a container may list an object: only what has an odd id lists something, and then only younger ones of these.
-fn may_list(container: ObjectId, object: ObjectId) -> bool
-    ensures { IsTrue result → (container % 2 ≡ 1) × (object % 2 ≡ 1 → container < object) }
-{
+fn may_list(container: ObjectId, object: ObjectId) -> bool {
     is_container(container) && (!is_container(object) || container.number() < object.number())
 }
 
 // Whether an id is that of an object that is there.
-fn is_there(tree: &Containers<u64>, id: ObjectId, meter: &mut Meter) -> bool
-    ensures { result ≡ has (ids_in tree.now.lists) id }
-{
+fn is_there(tree: &Containers<u64>, id: ObjectId, meter: &mut Meter) -> bool {
     match tree.find(id, meter) {
         Some(_) => true,
         None => false,
@@ -39,9 +28,7 @@ fn is_there(tree: &Containers<u64>, id: ObjectId, meter: &mut Meter) -> bool
 }
 
 // Whether an id is above all that are there.
-fn is_above(tree: &Containers<u64>, id: ObjectId, meter: &mut Meter) -> bool
-    ensures { IsTrue result → All (λ i. i < id) (ids_in tree.now.lists) }
-{
+fn is_above(tree: &Containers<u64>, id: ObjectId, meter: &mut Meter) -> bool {
     let len = tree.len();
     if len == 0 {
         return true;
@@ -50,9 +37,7 @@ fn is_above(tree: &Containers<u64>, id: ObjectId, meter: &mut Meter) -> bool
 }
 
 // Whether fewer links are there than the pool has.
-fn has_room(tree: &Containers<u64>, pool: usize, meter: &mut Meter) -> bool
-    ensures { IsTrue result → link_count tree.now.lists < pool }
-{
+fn has_room(tree: &Containers<u64>, pool: usize, meter: &mut Meter) -> bool {
     let mut left = pool;
     let len = tree.len();
     for place in 0..len {
@@ -68,10 +53,7 @@ fn has_room(tree: &Containers<u64>, pool: usize, meter: &mut Meter) -> bool
 
 impl Guarded {
     /// The root alone, in a pool of so many objects and as many links. Only this takes memory.
-    pub fn boot(alloc: Global, pool: usize) -> Result<Guarded, NoMemory>
-        requires some { 0 < pool }
-        requires fits { 2 * pool + 2 < 2 ^ 64 }
-    {
+    pub fn boot(alloc: Global, pool: usize) -> Result<Guarded, NoMemory> {
         let meter = Meter::new(alloc)?;
         let tree = Containers::boot(alloc, pool, 1)?;
         Ok(Guarded { tree, meter, pool })

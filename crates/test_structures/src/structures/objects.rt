@@ -1,18 +1,14 @@
 //! Objects under their ids, and without memory.
-ghost use Rattle.std.specs.Prelude.{◌≡◌, IfOk};
-ghost use Rattle.containers.specs.Objects.{no_objects};
 
-use crate::look::{Look, agree};
-use crate::samples::meter_again;
 use anyhow::Result;
 use base::{Meter, NoMemory, ObjectId};
 use containers::object_arena::Arena;
+use happy_calls::look::{Look, agree};
+use happy_calls::samples::meter_again;
 use std::alloc::Global;
 
 // Three slots, booted once more where the first boot had no memory.
-fn booted_again(alloc: Global) -> Result<Arena<char>, NoMemory>
-    ensures { IfOk result (λ a. a ≡ no_objects 3) }
-{
+fn booted_again(alloc: Global) -> Result<Arena<char>, NoMemory> {
     match Arena::boot(alloc, 3) {
         Ok(arena) => Ok(arena),
         Err(_) => Arena::boot(alloc, 3),

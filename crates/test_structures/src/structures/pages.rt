@@ -1,26 +1,21 @@
 //! Bytes and packets by slot, and without memory.
-ghost use Rattle.std.specs.Prelude.{◌≡◌, [], IfOk, replicate};
 
-use crate::look::{Look, agree};
-use crate::samples::meter_again;
 use anyhow::Result;
 use arena_memory::segments::{Queues, Segments};
 use base::{Data, Meter, NoMemory, Slot};
+use happy_calls::look::{Look, agree};
+use happy_calls::samples::meter_again;
 use std::alloc::Global;
 
 // Three slots, booted once more where the first boot had no memory.
-fn segments_again(alloc: Global) -> Result<Segments, NoMemory>
-    ensures { IfOk result (λ s. s ≡ replicate 3 []) }
-{
+fn segments_again(alloc: Global) -> Result<Segments, NoMemory> {
     match Segments::boot(alloc, 3) {
         Ok(segments) => Ok(segments),
         Err(_) => Segments::boot(alloc, 3),
     }
 }
 
-fn queues_again(alloc: Global) -> Result<Queues, NoMemory>
-    ensures { IfOk result (λ q. q ≡ replicate 3 []) }
-{
+fn queues_again(alloc: Global) -> Result<Queues, NoMemory> {
     match Queues::boot(alloc, 3) {
         Ok(queues) => Ok(queues),
         Err(_) => Queues::boot(alloc, 3),

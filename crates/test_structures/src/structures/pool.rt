@@ -1,18 +1,15 @@
 //! Labels that have one index each, and without memory.
-ghost use Rattle.std.specs.Prelude.{◌≡◌, None, IfOk, replicate};
 
-use crate::look::{Look, agree};
-use crate::samples::{everywhere, label_with, meter_again, plain};
 use anyhow::{Result, bail};
 use base::{Level, Meter, NoMemory};
+use happy_calls::look::{Look, agree};
+use happy_calls::samples::{everywhere, label_with, meter_again, plain};
 use label_intern::{Labels, OrderBits};
 use label_lattice::Label;
 use std::alloc::Global;
 
 // Three indexes, booted once more where the first boot had no memory.
-fn booted_again(alloc: Global) -> Result<Labels, NoMemory>
-    ensures { IfOk result (λ labels. labels ≡ replicate 3 None) }
-{
+fn booted_again(alloc: Global) -> Result<Labels, NoMemory> {
     match Labels::boot(alloc, 3) {
         Ok(labels) => Ok(labels),
         Err(_) => Labels::boot(alloc, 3),

@@ -1,18 +1,14 @@
 //! Lists by index, and without memory.
-ghost use Rattle.std.specs.Prelude.{◌≡◌, [], ◌∷◌, map, IfOk};
-ghost use Rattle.containers.specs.Lists.{empty_lists, cells_at, with_cells, StandsAt};
 
-use crate::look::{Look, agree};
-use crate::samples::meter_again;
 use anyhow::Result;
 use base::{Meter, NoMemory};
 use containers::entry_lists::Rings;
+use happy_calls::look::{Look, agree};
+use happy_calls::samples::meter_again;
 use std::alloc::Global;
 
 // Two families of four cells, made once more where the first making had no memory.
-fn rings_again(alloc: Global) -> Result<Rings<2>, NoMemory>
-    ensures { IfOk result (λ r. r ≡ map (empty_lists 4) (2 ∷ 3 ∷ [])) }
-{
+fn rings_again(alloc: Global) -> Result<Rings<2>, NoMemory> {
     match Rings::new(alloc, &[2, 3], 4) {
         Ok(rings) => Ok(rings),
         Err(_) => Rings::new(alloc, &[2, 3], 4),
@@ -20,12 +16,7 @@ fn rings_again(alloc: Global) -> Result<Rings<2>, NoMemory>
 }
 
 // Cells 3 and 0 in a list of the first family, and cell 3 in one of the second.
-fn link_three(rings: &mut Rings<2>, meter: &mut Meter)
-    requires { rings.old ≡ map (empty_lists 4) (2 ∷ 3 ∷ []) }
-    ensures linked { rings.new
-        ≡ with_cells (with_cells (map (empty_lists 4) (2 ∷ 3 ∷ [])) 0 1 (3 ∷ 0 ∷ [])) 1 2 (3 ∷ []) }
-    ensures first { StandsAt (cells_at rings.new 0 1) 0 3 }
-{
+fn link_three(rings: &mut Rings<2>, meter: &mut Meter) {
     rings.push_back(0, 1, 3, meter);
     rings.push_back(0, 1, 0, meter);
     rings.push_back(1, 2, 3, meter);

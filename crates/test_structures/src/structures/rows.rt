@@ -1,12 +1,10 @@
 //! Rows of translation by slot, and without memory.
-ghost use Rattle.std.specs.Prelude.{◌≡◌, IfOk};
-ghost use Rattle.arena_memory.specs.Rows.{no_rows};
 
-use crate::look::{Look, agree};
-use crate::samples::meter_again;
 use anyhow::Result;
 use arena_memory::translation_rows::Rows;
 use base::{Meter, NoMemory, ObjectId, Rights, Slot};
+use happy_calls::look::{Look, agree};
+use happy_calls::samples::meter_again;
 use std::alloc::Global;
 
 const READING: Rights = Rights {
@@ -15,9 +13,7 @@ const READING: Rights = Rights {
 };
 
 // Three slots, booted once more where the first boot had no memory.
-fn rows_again(alloc: Global) -> Result<Rows, NoMemory>
-    ensures { IfOk result (λ rows. rows ≡ no_rows 3) }
-{
+fn rows_again(alloc: Global) -> Result<Rows, NoMemory> {
     match Rows::boot(alloc, 3) {
         Ok(rows) => Ok(rows),
         Err(_) => Rows::boot(alloc, 3),

@@ -1,7 +1,7 @@
 //! What a visitor was handed.
-use crate::look::{Look, agree};
 use base::Meter;
 use containers::{Located, Visitor};
+use happy_calls::look::{Look, agree};
 
 /// As many objects, and as many links.
 pub const POOL: usize = 24;

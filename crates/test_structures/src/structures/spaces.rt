@@ -1,18 +1,15 @@
 //! Address spaces by slot, and without memory.
-ghost use Rattle.std.specs.Prelude.{◌≡◌, None, length, replicate, IfOk};
 
-use crate::look::{Look, agree};
-use crate::samples::meter_again;
 use anyhow::Result;
 use arena_memory::address_spaces::Spaces;
 use base::{Meter, NoMemory, ObjectId, Rights, Slot};
+use happy_calls::look::{Look, agree};
+use happy_calls::samples::meter_again;
 use kernel_rules::{Entry, Mapping};
 use std::alloc::Global;
 
 // Three slots, booted once more where the first boot had no memory.
-fn booted_again(alloc: Global) -> Result<Spaces, NoMemory>
-    ensures { IfOk result (λ s. s ≡ replicate 3 (replicate 16 None)) }
-{
+fn booted_again(alloc: Global) -> Result<Spaces, NoMemory> {
     match Spaces::boot(alloc, 3) {
         Ok(spaces) => Ok(spaces),
         Err(_) => Spaces::boot(alloc, 3),
@@ -41,10 +38,7 @@ const ONE: Slot = Slot(0);
 const OTHER: Slot = Slot(2);
 
 // Two mappings of one segment: at place 15 of the last space, and at place 3 of the first.
-fn map_two(spaces: &mut Spaces)
-    requires { length spaces.old ≡ 3 }
-    ensures { length spaces.new ≡ 3 }
-{
+fn map_two(spaces: &mut Spaces) {
     spaces.map(OTHER, 15, shown_as(7));
     spaces.map(ONE, 3, shown_as(8));
 }

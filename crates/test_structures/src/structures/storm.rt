@@ -1,9 +1,9 @@
 //! Ten thousand random calls on containers and on their twin.
 use super::seen::{POOL, Seen, compare_seen};
 use crate::containers_twin::{Guarded, Hierarchy, Twin};
-use crate::look::{Look, agree};
 use anyhow::Result;
 use base::{NoMemory, ObjectId, Slot};
+use happy_calls::look::{Look, agree};
 use std::alloc::Global;
 
 const CALLS: usize = 10_000;

@@ -1,13 +1,9 @@
 //! Links between containers and objects, and without memory.
-ghost use Rattle.std.specs.Prelude.{◌≡◌, [], ◌∷◌, true, IfOk};
-ghost use Rattle.base.specs.Live.{has};
-ghost use Rattle.containers.specs.Tree.{ids_in, HasSlot};
-
-use crate::look::{Look, agree};
-use crate::samples::meter_again;
 use anyhow::Result;
 use base::{Meter, NoMemory, ObjectId};
 use containers::{Containers, Located, Visitor};
+use happy_calls::look::{Look, agree};
+use happy_calls::samples::meter_again;
 use std::alloc::Global;
 
 // Remembers the numbers of the first eight objects that it is handed, and how many links.
@@ -18,9 +14,7 @@ struct Seen {
     len: usize,
 }
 
-fn nothing_seen() -> Seen
-    ensures { result.len ≡ 0 }
-{
+fn nothing_seen() -> Seen {
     Seen {
         links: 0,
         objects: [0; 8],
@@ -29,9 +23,9 @@ fn nothing_seen() -> Seen
 }
 
 impl Visitor for Seen {
-    ghost link_gives = { λ v c o w. (v.len ≡ w.len) };
+    ghost link_gives = { λ _ _ _ _. Unit {0} };
 
-    ghost object_gives = { λ v o w. (v.links ≡ w.links) };
+    ghost object_gives = { λ _ _ _. Unit {0} };
 
     fn link(&mut self, _container: Located, _object: Located) {
         self.links = self.links.saturating_add(1);
@@ -46,10 +40,7 @@ impl Visitor for Seen {
 }
 
 // The root lists 4 and 6, 4 lists 5 and 6.
-fn family(alloc: Global, meter: &mut Meter) -> Result<Containers<char>, NoMemory>
-    ensures { IfOk result
-        (λ t. t.lists ≡ (1, 4 ∷ 6 ∷ []) ∷ (4, 5 ∷ 6 ∷ []) ∷ (5, []) ∷ (6, []) ∷ []) }
-{
+fn family(alloc: Global, meter: &mut Meter) -> Result<Containers<char>, NoMemory> {
     let mut tree = Containers::boot(alloc, 4, 'r')?;
     let root = ObjectId::root();
     tree.create(root, ObjectId::new(4), 'a', meter);
@@ -60,11 +51,7 @@ fn family(alloc: Global, meter: &mut Meter) -> Result<Containers<char>, NoMemory
 }
 
 // Where an object lies that is there.
-fn found(tree: &Containers<char>, id: ObjectId, meter: &mut Meter) -> Located
-    requires there { has (ids_in tree.now.lists) id ≡ true }
-    ensures id { result.id ≡ id }
-    ensures slot { HasSlot tree.now id result.slot.0 }
-{
+fn found(tree: &Containers<char>, id: ObjectId, meter: &mut Meter) -> Located {
     match tree.find(id, meter) {
         Some(slot) => Located { id, slot },
         None => unreachable!(),
@@ -241,10 +228,7 @@ fn where_there_is_no_link_nothing_goes(alloc: Global, look: &mut Look) -> Result
 }
 
 // The same, made once more where the first making had no memory.
-fn family_again(alloc: Global, meter: &mut Meter) -> Result<Containers<char>, NoMemory>
-    ensures { IfOk result
-        (λ t. t.lists ≡ (1, 4 ∷ 6 ∷ []) ∷ (4, 5 ∷ 6 ∷ []) ∷ (5, []) ∷ (6, []) ∷ []) }
-{
+fn family_again(alloc: Global, meter: &mut Meter) -> Result<Containers<char>, NoMemory> {
     match family(alloc, meter) {
         Ok(tree) => Ok(tree),
         Err(_) => family(alloc, meter),

@@ -1,8 +1,8 @@
 //! Labels: their orders, their exceptions, and their raw form.
-use crate::look::{Look, agree};
-use crate::samples::{is_labelled, label_with, pair};
 use anyhow::{Result, bail};
 use base::{Category, Level, Meter, Refusal};
+use happy_calls::look::{Look, agree};
+use happy_calls::samples::{is_labelled, label_with, pair};
 use label_lattice::{Label, Pair, RawLabel};
 use std::alloc::Global;
 

@@ -1,8 +1,8 @@
 //! What objects hold, and the refusal of a row.
-use crate::look::{Look, agree};
-use crate::samples::{in_root, plain};
 use anyhow::{Result, bail};
 use base::{Data, Meter, ObjectId, Refusal, Rights};
+use happy_calls::look::{Look, agree};
+use happy_calls::samples::{in_root, plain};
 use kernel_rules::{
     Body, Bytes, IdList, Ids, Mapping, Packets, Slots, fresh_object, least_of, least_with,
 };

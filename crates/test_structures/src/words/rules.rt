@@ -1,8 +1,8 @@
 //! Each rule where it holds and where it doesn't, over the labels {1}, {1:*,1} and {1:3,1}.
-use crate::look::{Look, agree};
-use crate::samples::label_with;
 use anyhow::{Result, bail};
 use base::{Category, Level, Meter};
+use happy_calls::look::{Look, agree};
+use happy_calls::samples::label_with;
 use label_lattice::Label;
 use label_lattice::label_rules::{
     Asked, Bearer, is_above_floor, is_below, is_below_join, is_below_join_up, is_between, is_shown,

@@ -1,4 +1,6 @@
 //! Calls that are kept.
+use crate::look::{Look, agree};
+use crate::samples::{EIGHT_PAGES, boot_thread, in_root, meter_again, new_thread};
 use anyhow::Result;
 use auditor::{Verdict, audit};
 use base::Meter;
@@ -6,8 +8,6 @@ use kernel_rules::{Call, Query, Reply};
 use logged_kernel::{LoggedKernel, NotKept};
 use std::alloc::Global;
 use syscall_core::BootRefusal;
-use test_structures::look::{Look, agree};
-use test_structures::samples::{EIGHT_PAGES, boot_thread, in_root, meter_again, new_thread};
 
 /// A kernel, booted again where there was no memory.
 fn boot_again(alloc: Global) -> Result<LoggedKernel, BootRefusal> {

@@ -1,11 +1,11 @@
 //! A kernel with its meters, and looks at it of which the prover is told nothing.
+use crate::look::Look;
+use crate::samples::boot_thread;
 use anyhow::Result;
 use base::{Limits, Meter, NoMemory, ObjectId};
 use label_intern::LabelIx;
 use std::alloc::Global;
 use syscall_core::{Call, Kernel, Query, Reply, run};
-use test_structures::look::Look;
-use test_structures::samples::boot_thread;
 
 /// A kernel, the meter of its calls, and another for its tables.
 #[derive(Drop)]
