@@ -34,7 +34,7 @@ class Refused:
         self.file, self.before, self.run = file, runs[:-1], runs[-1]
         words = tuple(os.fsdecode(it) for it in self.run.words[:2])
         crate = words[0].replace("-", "_")
-        self.program = os.path.abspath(unproved.place(crate) if crate in unproved.listed() else f"{tree}/crates/{crate}/out/{crate}")
+        self.program = os.path.abspath(unproved.place(crate) if crate == cases.SCENES else f"{tree}/crates/{crate}/out/{crate}")
         self.is_dialogue = words == ("histar", "try")
         self.lines = [f"{it}: out of memory\n".encode() for it in (words[0], NAMES.get(words, words[0]))]
 

@@ -246,9 +246,9 @@ def interrupt(number, _):
 
 def crates_for(names):
     """These crates and those below them, lowest first."""
-    every, left_out = toolchain().rtlib.crates_below(os.getcwd()), unproved.listed()
+    every, scenes = toolchain().rtlib.crates_below(os.getcwd()), unproved.scenes()
     for name in names:
-        if name in left_out:
+        if name in scenes:
             raise Ended(WRONG_WORDS, f"{name}: it is compiled with checks, not proved: ./test play does so")
         if name not in [it.name for it in every]:
             raise Ended(WRONG_WORDS, f"{name}: crates.txt names no such crate")

@@ -34,10 +34,10 @@ def copy_tree(to):
 def copy_proved(to):
     """Copies what is proved."""
     copy_tree(to)
-    for it in unproved.listed():
+    for it in unproved.left_out():
         shutil.rmtree(f"{to}/crates/{it}")
     with open(f"{to}/crates.txt", "w", encoding="utf-8") as it:
-        it.writelines(unproved.proved_lines())
+        it.write(unproved.proved_lines())
 
 
 def show(report, line):

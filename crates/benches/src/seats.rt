@@ -1,6 +1,7 @@
 //! Times calls through seats beside a file and a kernel under a lock that readers share, with several threads at once, and
 //! how reads and writes go on beside each other. Each ratio is of one run, so it says the same on a slow machine and on a
 //! fast one.
+ghost use Rattle.std.specs.Prelude.{◌≡◌};
 
 mod batches;
 mod desks;
@@ -279,7 +280,9 @@ fn compare_opened<B: Naming + Send, R: Threads + Wait + Clock + Print + Sync>(
     boot: Boot,
     file: &File,
     asked: (Seats, u64),
-) -> Result<()> {
+) -> Result<()>
+    requires { boot ≡ B.boot }
+{
     let shared = boot.open::<B>();
     compare_shared(rt, alloc, &shared, file, asked)
 }

@@ -1,6 +1,5 @@
 //! The scenes of words and of the structures below a kernel.
 #![tactic(auto)]
 
-pub mod containers_twin;
 pub mod structures;
 pub mod words;

@@ -4,8 +4,8 @@ use super::pool::{Pool, label_of};
 use super::unrefs::{Count, no_count};
 use anyhow::Result;
 use base::{Meter, ObjectId};
+use containers_twin::{Guarded, Hierarchy};
 use std::alloc::Global;
-use test_structures::containers_twin::{Guarded, Hierarchy};
 
 const SIZE: usize = 64;
 

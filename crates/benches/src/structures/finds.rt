@@ -4,11 +4,11 @@ use super::sizes::{MOST, print_beside_map};
 use crate::timing::nanos_since;
 use anyhow::Result;
 use base::ObjectId;
+use containers_twin::{Guarded, Hierarchy};
 use std::alloc::Global;
 use std::collections::BTreeMap;
 use std::rt::Clock;
 use std::time::Instant;
-use test_structures::containers_twin::{Guarded, Hierarchy};
 
 // The number at a place: that of the root, and even ones.
 fn number_at(place: usize) -> u64 {

@@ -1,4 +1,6 @@
 //! Interned labels with a count of their owners.
+ghost use Rattle.std.specs.Prelude.{◌≡◌, ◌<◌, ◌^◌, length};
+ghost use Rattle.label_intern.specs.Held.{owned};
 
 use base::{Category, Level, Meter, NoMemory};
 use label_intern::{LabelIx, Labels, OrderBits};
@@ -11,11 +13,15 @@ pub struct Pool {
     labels: Labels,
     size: usize,
     owners: usize,
+    ghost size_is: { length labels ≡ size },
+    ghost owners_are: { owned labels ≡ owners },
 }
 
 impl Pool {
     /// No label, in so many indexes.
-    pub fn boot(alloc: Global, size: usize) -> Result<Pool, NoMemory> {
+    pub fn boot(alloc: Global, size: usize) -> Result<Pool, NoMemory>
+        requires { size < 2 ^ 16 }
+    {
         let labels = Labels::boot(alloc, size)?;
         Ok(Pool {
             labels,

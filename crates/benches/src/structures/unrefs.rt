@@ -5,11 +5,11 @@ use crate::timing::nanos_since;
 use anyhow::Result;
 use base::{Meter, ObjectId};
 use containers::{Located, Visitor};
+use containers_twin::{Guarded, Hierarchy};
 use std::alloc::Global;
 use std::collections::BTreeMap;
 use std::rt::Clock;
 use std::time::Instant;
-use test_structures::containers_twin::{Guarded, Hierarchy};
 
 /// Counts what it is handed.
 #[derive(Drop)]

@@ -1,8 +1,8 @@
 //! Ten thousand random calls on containers and on their twin.
 use super::seen::{POOL, Seen, compare_seen};
-use crate::containers_twin::{Guarded, Hierarchy, Twin};
 use anyhow::Result;
 use base::{NoMemory, ObjectId, Slot};
+use containers_twin::{Guarded, Hierarchy, Twin};
 use happy_calls::look::{Look, agree};
 use std::alloc::Global;
 

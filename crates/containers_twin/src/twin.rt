@@ -1,6 +1,6 @@
 //! The plain twin.
 
-use crate::containers_twin::hierarchy::{Hierarchy, is_container};
+use crate::hierarchy::{Hierarchy, is_container};
 use base::{Meter, NoMemory, ObjectId, Slot};
 use containers::{Located, Visitor};
 use std::alloc::Global;

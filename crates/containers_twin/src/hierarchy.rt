@@ -1,10 +1,13 @@
 //! What both machines offer.
+ghost use Rattle.std.specs.Prelude.{◌≡◌, ◌↔◌, ◌%◌, IsTrue};
 
 use base::{NoMemory, ObjectId};
 use containers::Visitor;
 
 /// Whether an id is that of a container: the odd ids are, so the root is, and the even ids are not.
-pub fn is_container(id: ObjectId) -> bool {
+pub fn is_container(id: ObjectId) -> bool
+    ensures { IsTrue result ↔ (id % 2 ≡ 1) }
+{
     id.number() % 2 == 1
 }
 

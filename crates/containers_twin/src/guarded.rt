@@ -1,6 +1,11 @@
 //! Containers, each call of which tests what it needs.
+ghost use Rattle.std.specs.Prelude.{◌≡◌, ◌<◌, ◌+◌, ◌*◌, ◌%◌, ◌^◌, length, All, IsTrue};
+ghost use Rattle.std.specs.Prelude.{true};
+ghost use Rattle.base.specs.Live.{has};
+ghost use Rattle.containers.specs.Tree.{ids_in, link_count};
+ghost use Rattle.containers_twin.specs.Layers.{IsLayered};
 
-use crate::containers_twin::hierarchy::{Hierarchy, is_container};
+use crate::hierarchy::{Hierarchy, is_container};
 use base::{Meter, NoMemory, ObjectId, Slot};
 use containers::{Containers, Visitor};
 use std::alloc::Global;
@@ -12,15 +17,21 @@ pub struct Guarded {
     tree: Containers<u64>,
     meter: Meter,
     pool: usize,
+    ghost pool_is: { length tree.cells ≡ pool },
+    ghost layered: { IsLayered tree.lists },
 }
 
 // Whether a container may list an object: only what has an odd id lists something, and then only younger ones of these.
-fn may_list(container: ObjectId, object: ObjectId) -> bool {
+fn may_list(container: ObjectId, object: ObjectId) -> bool
+    ensures { IsTrue result → (container % 2 ≡ 1) × (object % 2 ≡ 1 → container < object) }
+{
     is_container(container) && (!is_container(object) || container.number() < object.number())
 }
 
 // Whether an id is that of an object that is there.
-fn is_there(tree: &Containers<u64>, id: ObjectId, meter: &mut Meter) -> bool {
+fn is_there(tree: &Containers<u64>, id: ObjectId, meter: &mut Meter) -> bool
+    ensures { result ≡ has (ids_in tree.now.lists) id }
+{
     match tree.find(id, meter) {
         Some(_) => true,
         None => false,
@@ -28,7 +39,9 @@ fn is_there(tree: &Containers<u64>, id: ObjectId, meter: &mut Meter) -> bool {
 }
 
 // Whether an id is above all that are there.
-fn is_above(tree: &Containers<u64>, id: ObjectId, meter: &mut Meter) -> bool {
+fn is_above(tree: &Containers<u64>, id: ObjectId, meter: &mut Meter) -> bool
+    ensures { IsTrue result → All (λ i. i < id) (ids_in tree.now.lists) }
+{
     let len = tree.len();
     if len == 0 {
         return true;
@@ -37,7 +50,9 @@ fn is_above(tree: &Containers<u64>, id: ObjectId, meter: &mut Meter) -> bool {
 }
 
 // Whether fewer links are there than the pool has.
-fn has_room(tree: &Containers<u64>, pool: usize, meter: &mut Meter) -> bool {
+fn has_room(tree: &Containers<u64>, pool: usize, meter: &mut Meter) -> bool
+    ensures { IsTrue result → link_count tree.now.lists < pool }
+{
     let mut left = pool;
     let len = tree.len();
     for place in 0..len {
@@ -53,7 +68,10 @@ fn has_room(tree: &Containers<u64>, pool: usize, meter: &mut Meter) -> bool {
 
 impl Guarded {
     /// The root alone, in a pool of so many objects and as many links. Only this takes memory.
-    pub fn boot(alloc: Global, pool: usize) -> Result<Guarded, NoMemory> {
+    pub fn boot(alloc: Global, pool: usize) -> Result<Guarded, NoMemory>
+        requires some { 0 < pool }
+        requires fits { 2 * pool + 2 < 2 ^ 64 }
+    {
         let meter = Meter::new(alloc)?;
         let tree = Containers::boot(alloc, pool, 1)?;
         Ok(Guarded { tree, meter, pool })
