@@ -13,7 +13,7 @@ from gate.plays import text
 MARGIN = "    "
 PROMPT = "> "
 TUTORIAL = "docs/TUTORIAL.md"
-FILES = [TUTORIAL, "docs/PROGRAMS.md"]
+FILES = ["README.md", TUTORIAL, "docs/PROGRAMS.md"]
 # What counts as documents, and how many words they may have. A word has a letter; what a script made is left out.
 PAGES = ("README.md", "CONTRIBUTING.md", "CHANGELOG.md", "examples/README.md", "crates/README.md", "docs/*.md")
 MOST_WORDS = 30_000

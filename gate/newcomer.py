@@ -1,4 +1,4 @@
-"""What README and docs/TUTORIAL.md tell a newcomer to type, typed in their order in a copy of the tree where nothing is built, and run to
+"""What README, docs/TUTORIAL.md and docs/EMBED.md tell a newcomer to type, typed in their order in a copy of the tree where nothing is built, and run to
 its end. What a document gives a name for (SCRIPT, DUMP, ..) stands in FILLED.
 
 What README has before ./prove is started unproved, says so in one line, and is started once more after it: then it says the
@@ -15,7 +15,7 @@ from gate import documents
 from gate.plays import text
 from gate.proofs import copy_tree
 
-README = "README.md"
+README, EMBED = "README.md", "docs/EMBED.md"
 FILLED = {"SCRIPT": "examples/first.histar", "DUMP": "first.dump", "FILE": "first.html", "ID": "4", "N": "1", "LABEL": "'{1}'"}
 NAMED = ("NAME", "secret")
 # What checks the whole tree, of which this stage is a part, and what the stage `packages` types.
@@ -50,14 +50,9 @@ def filled(command):
     return " ".join(FILLED.get(it, it.replace(*NAMED)) for it in command.split(" "))
 
 
-def blocks_in(document):
-    """The blocks of a document that are set off by four spaces."""
-    return ["\n".join(line[4:] for line in it.splitlines()) + "\n" for it in re.findall(r"(?:^ {4}.*\n|^\n(?= {4}))+", document, re.M)]
-
-
-def program_in(document, mark):
-    """The block that has a line which begins like this."""
-    return next(it for it in blocks_in(document) if re.search(rf"^{mark}", it, re.M))
+def program_in(document, language):
+    """The first block of a document that is in this language."""
+    return re.search(rf"^```{language}\n(.*?)^```$", document, re.M | re.S)[1]
 
 
 class Newcomer:
@@ -129,27 +124,27 @@ class Newcomer:
             self.compile_rust()
 
     def compile_c(self):
-        """README's first program in C, by the command that README has."""
-        command = re.search(r"^ {4}(cc .*)$", text(README), re.M)[1]
+        """The first program in C, by the command that stands above it."""
+        command = re.search(r"^ {4}(cc .*)$", text(EMBED), re.M)[1]
         if not shutil.which("cc"):
             self.report.say(f"left out: {command}: there is no cc")
             return
-        with open(f"{self.top}/first.c", "w", encoding="utf-8") as it:
-            it.write(program_in(text(README), "#include"))
-        ended = self.type(command)
+        with open(f"{self.top}/program.c", "w", encoding="utf-8") as it:
+            it.write(program_in(text(EMBED), "c"))
+        ended = self.type(f"{command} && ./a.out")
         self.counts(ended == (0, FIRST, ""), command, ended)
 
     def compile_rust(self):
-        """README's first program in Rust, in a package of its own."""
+        """The first program in Rust, in a package of its own."""
         if not shutil.which("cargo"):
-            self.report.say("left out: README's program in Rust: there is no cargo")
+            self.report.say("left out: the first program in Rust: there is no cargo")
             return
         os.makedirs(f"{self.top}/out/first/src")
-        for file, made in (("Cargo.toml", MANIFEST.format(top=self.top)), ("src/main.rs", program_in(text(README), "use histar"))):
+        for file, made in (("Cargo.toml", MANIFEST.format(top=self.top)), ("src/main.rs", program_in(text(EMBED), "rust"))):
             with open(f"{self.top}/out/first/{file}", "w", encoding="utf-8") as it:
                 it.write(made)
         ended = self.type("cargo run --quiet --offline --manifest-path out/first/Cargo.toml")
-        self.counts(ended[0] == 0 and "CannotObserve" in ended[1], "README's program in Rust", ended)
+        self.counts(ended[0] == 0 and "CannotObserve" in ended[1], "the first program in Rust", ended)
 
 
 def read(report):

@@ -11,7 +11,7 @@ sys.dont_write_bytecode = True
 os.chdir(os.path.dirname(os.path.dirname(os.path.realpath(__file__))))
 sys.path.insert(0, os.getcwd())
 
-from gate import times  # noqa: E402
+from gate import times, unproved  # noqa: E402
 from gate.proofs import TIMES  # noqa: E402
 from gate.toolchain import SECONDS  # noqa: E402
 
@@ -32,7 +32,7 @@ def below(pattern):
 
 
 class Crate:
-    """A crate of crates.txt: the crates that it uses, its lines and edits, and its seconds of processor."""
+    """A crate of crates.txt that is proved: the crates that it uses, its lines and edits, and its seconds of processor."""
 
     def __init__(self, name, uses, seconds):
         root = f"crates/{name}"
@@ -51,8 +51,7 @@ class Crate:
 
 def crates():
     seconds = times.read(SECONDS)
-    with open("crates.txt", encoding="utf-8") as it:
-        rows = [line.split("#")[0].split(":") for line in it if ":" in line.split("#")[0]]
+    rows = [line.split("#")[0].split(":") for line in unproved.proved_lines().splitlines() if ":" in line.split("#")[0]]
     return [Crate(row[0].split()[0], row[1].split(), seconds) for row in rows]
 
 
