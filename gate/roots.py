@@ -29,7 +29,7 @@ OTHER = r'sed "s/\(define HISTAR_VERSION_NUMBER\) .*/\1 1/" /usr/include/histar.
 ROWS = (
     ("no toolchain is there", "command -v rt || echo none", "none\n"),
     ("histar --version", "histar --version", "histar {version}\n"),
-    ("histar --version --long", "histar --version --long | sed -n 's/ .*//; 2,$p'", "commit\nkit\nsources\ngate\n"),
+    ("histar --version --long", "histar --version --long | sed -n 's/ .*//; 2,$p'", "commit\nkit\nsources\n"),
     ("histar run", f"histar run {EXAMPLES}/first.histar --dump /srv/dump | cmp - {EXAMPLES}/first.out && echo same", "same\n"),
     ("histar-audit", "histar-audit /srv/dump", "clean\n"),
     ("histar show page", "histar show page /srv/dump --out /srv/page.html && grep -c '</html>' /srv/page.html", "1\n"),
@@ -40,7 +40,7 @@ ROWS = (
     ("cargo", "cd /srv/rust && cargo run --offline --quiet", "true\n"),
     ("Python", f'python3 -c "{PYTHON}"', "{number} True False\n"),
     ("a header of another version", f"{OTHER} /srv/try.c -lhistar -o /srv/try && /srv/try", "32 OtherVersion\n"),
-    ("both go again", "dpkg --remove koalaingot libhistar-dev > /dev/null && ls -d /usr/bin/histar* /usr/share/histar 2> /dev/null | wc -l", "0\n"),
+    ("both go again", "dpkg --remove koalaingot libhistar-dev libhistar0 > /dev/null && ls -d /usr/bin/histar* /usr/share/histar 2> /dev/null | wc -l", "0\n"),
 )
 
 
