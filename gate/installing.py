@@ -1,5 +1,5 @@
 """./install: what the packages have, laid below a folder. All of it is made in a folder beside the places first, on the same disk; then each
-file takes its place by a rename, which signals wait for. So a program that runs keeps its file, a link at a place is replaced and not
+file takes its place by a rename, and no signal comes between. So a program that runs keeps its file, a link at a place is replaced and not
 followed, and a start that fails leaves what was there. What an older version laid and this one has not goes."""
 import contextlib
 import errno
@@ -11,7 +11,7 @@ import tempfile
 from gate import packages, sources
 
 LISTED = "share/doc/koalaingot/installed"
-HELD = {signal.SIGINT, signal.SIGTERM, signal.SIGHUP}
+HELD = (signal.SIGINT, signal.SIGTERM, signal.SIGHUP)
 
 
 class Interrupted(Exception):
@@ -57,16 +57,14 @@ def rename(made, to):
 
 
 def place(room, prefix):
-    """Gives all files of a room their places below the prefix. Signals wait until the end."""
+    """Gives all files of a room their places below the prefix. From here on no signal ends it."""
     before = laid_before(prefix)
-    signal.pthread_sigmask(signal.SIG_BLOCK, HELD)
-    try:
-        for file in room.laid:
-            os.makedirs(os.path.dirname(f"{prefix}/{file}"), exist_ok=True)
-            rename(f"{room.top}/{file}", f"{prefix}/{file}")
-        take_away(prefix, [it for it in before if it not in set(room.laid)])
-    finally:
-        signal.pthread_sigmask(signal.SIG_UNBLOCK, HELD)
+    for it in HELD:
+        signal.signal(it, signal.SIG_IGN)
+    for file in room.laid:
+        os.makedirs(os.path.dirname(f"{prefix}/{file}"), exist_ok=True)
+        rename(f"{room.top}/{file}", f"{prefix}/{file}")
+    take_away(prefix, [it for it in before if it not in set(room.laid)])
 
 
 def lay(room, prefix):

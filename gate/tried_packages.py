@@ -133,6 +133,10 @@ def hand_over(tree):
     return said.strip() if status else None
 
 
+# At how many moments ./install is stopped.
+MOMENTS = 30
+
+
 class Installed:
     """A folder in which ./install lays files, and looks at what it laid."""
 
@@ -215,18 +219,20 @@ class Installed:
     def interrupted(self):
         """Stopped at many moments, it leaves the old or the new."""
         first, last = self.text_of("p/bin/histar"), "p/share/doc/koalaingot/installed"
-        states = collections.Counter()
-        for wait in range(0, 30):
+        states, began = collections.Counter(), time.monotonic()
+        self.install("p")
+        whole = time.monotonic() - began
+        for moment in range(MOMENTS):
             self.write("p/bin/histar", b"old")
             self.write("p/include/histar.h", b"old")
             started = subprocess.Popen([f"{self.tree}/install", "p"], cwd=self.top, stdout=subprocess.DEVNULL, stderr=subprocess.DEVNULL)
-            time.sleep(wait / 20)
+            time.sleep(1.5 * whole * moment / MOMENTS)
             started.send_signal(signal.SIGTERM)
             status = started.wait()
             states["old" if self.text_of("p/bin/histar") == b"old" else "new", self.text_of("p/include/histar.h") == b"old", status == 0] += 1
         left = [it for it in os.listdir(f"{self.top}/p") if it.startswith(".koalaingot")]
         is_well = set(states) <= {("old", True, False), ("new", False, True)} and len(states) == 2 and not left
-        self.counts(is_well and os.path.isfile(f"{self.top}/{last}"), f"stopped at 30 moments leaves the old or the new: {sorted(states.values())}", (states, left))
+        self.counts(is_well and os.path.isfile(f"{self.top}/{last}"), f"stopped at {MOMENTS} moments leaves the old or the new: {sorted(states.values())}", (states, left))
         self.install("p")
         self.counts(self.text_of("p/bin/histar") == first, "after a stop", states)
 
