@@ -1,5 +1,7 @@
 /* Refuses one system call by which a program saves a file, the Nth, N in REFUSE, and says so by a byte to the file descriptor in
-   REFUSED, so that who counts N up sees when a run meets no Nth. Loaded before the program by LD_PRELOAD. */
+   REFUSED, so that who counts N up sees when a run meets no Nth. Where RECORD is a file descriptor, each call that is made is
+   told there in a line: `open PATH DESCRIPTOR`, `write DESCRIPTOR`, `fsync DESCRIPTOR`, `rename PATH PATH`. Loaded before the program by
+   LD_PRELOAD. */
 typedef unsigned long size_t;
 
 extern void *dlsym(void *, const char *);
@@ -26,17 +28,49 @@ static int is_refused(void) {
     return 1;
 }
 
+static void tell(const char *call, const char *first, const char *second) {
+    long (*put)(int, const void *, size_t) = (long (*)(int, const void *, size_t))dlsym(NEXT, "write");
+    const char *words[] = {call, " ", first, second ? " " : "", second ? second : "", "\n"};
+    int told = (int)number_in("RECORD");
+    for (int at = 0; told && at < 6; at++) {
+        size_t size = 0;
+        while (words[at][size]) size++;
+        put(told, words[at], size);
+    }
+}
+
+enum { DIGITS = 20 };
+
+/* The digits of a number, in room for them. */
+static const char *spelled(int number, char room[DIGITS]) {
+    int at = DIGITS - 1;
+    room[at] = 0;
+    do room[--at] = (char)('0' + number % 10); while (number /= 10);
+    return room + at;
+}
+
+static void tell_descriptor(const char *call, int file) {
+    char room[DIGITS];
+    tell(call, spelled(file, room), 0);
+}
+
 long write(int to, const void *bytes, size_t size) {
     long (*put)(int, const void *, size_t) = (long (*)(int, const void *, size_t))dlsym(NEXT, "write");
-    return is_refused() ? -1 : put(to, bytes, size);
+    if (is_refused()) return -1;
+    tell_descriptor("write", to);
+    return put(to, bytes, size);
 }
 int fsync(int file) {
     int (*sync)(int) = (int (*)(int))dlsym(NEXT, "fsync");
-    return is_refused() ? -1 : sync(file);
+    if (is_refused()) return -1;
+    tell_descriptor("fsync", file);
+    return sync(file);
 }
 int rename(const char *from, const char *to) {
     int (*move)(const char *, const char *) = (int (*)(const char *, const char *))dlsym(NEXT, "rename");
-    return is_refused() ? -1 : move(from, to);
+    if (is_refused()) return -1;
+    tell("rename", from, to);
+    return move(from, to);
 }
 int unlink(const char *path) {
     int (*drop)(const char *) = (int (*)(const char *))dlsym(NEXT, "unlink");
@@ -44,5 +78,9 @@ int unlink(const char *path) {
 }
 int open(const char *path, int flags, int mode) {
     int (*begin)(const char *, int, int) = (int (*)(const char *, int, int))dlsym(NEXT, "open");
-    return is_refused() ? -1 : begin(path, flags, mode);
+    if (is_refused()) return -1;
+    char room[DIGITS];
+    int made = begin(path, flags, mode);
+    if (made >= 0) tell("open", path, spelled(made, room));
+    return made;
 }

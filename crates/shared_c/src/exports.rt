@@ -1,6 +1,9 @@
 //! The functions that C calls. Each only finds what lies in C's memory, and calls a safe function.
+ghost use Rattle.std.specs.Prelude.{◌≡◌};
 ghost use Rattle.std.specs.Borrow.{full_share, sem};
 ghost use Rattle.std.specs.Ptr.{lies_at, room_at};
+ghost use denote.Param.{layout};
+ghost use prog.Memory.{capped, size};
 ghost use Rattle.shared_c.specs.contracts.held.HeldSeat.{the_row as SeatRow};
 ghost use Rattle.shared_c.specs.contracts.readers.HeldReader.{the_row as ReaderRow};
 ghost use Rattle.shared_c.specs.Readers.{IsReaderOf, IsReadBy, reader_in};
@@ -73,7 +76,9 @@ pub unsafe extern "C" fn histar_seat_end(at: *mut u8)
 
 /// How many bytes the room for a seat has, at a multiple of 16.
 #[unsafe(no_mangle)]
-pub extern "C" fn histar_seat_size() -> usize {
+pub extern "C" fn histar_seat_size() -> usize
+    ensures { result ≡ capped (size (layout SeatRow)) }
+{
     std::mem::size_of::<HeldSeat>()
 }
 
@@ -118,6 +123,8 @@ pub unsafe extern "C" fn histar_reader_end(at: *mut u8)
 
 /// How many bytes the room for a reader has, at a multiple of 16.
 #[unsafe(no_mangle)]
-pub extern "C" fn histar_reader_size() -> usize {
+pub extern "C" fn histar_reader_size() -> usize
+    ensures { result ≡ capped (size (layout ReaderRow)) }
+{
     std::mem::size_of::<HeldReader>()
 }
