@@ -142,5 +142,5 @@ def fail(report):
         try_help(report, command, arguments)
     try_left_over(report)
     try_migrations(report)
-    for command, name in (("histar run script", "histar"), ("histar-audit clean", "histar-audit"), ("histar show tree clean", "histar-show")):
+    for command, name in (("histar run script", "histar"), ("histar-audit clean", "histar-audit"), ("histar show tree clean", "histar show")):
         try_short_outputs(report, command, name)

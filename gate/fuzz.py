@@ -125,8 +125,8 @@ def is_shown(words, text, verdict, page=None):
         shown = read(page) if page and out == b"" else out
         return verdict != "unreadable" and err == b"" and shown.endswith(b"\n")
     if status == 1:
-        return verdict == "false" and (out, err) == (b"", b"histar-show: false at line 3: the checkpoint can't be restored\n")
-    fault = re.fullmatch(rb"histar-show: unreadable at line (\d+)\n", err)
+        return verdict == "false" and (out, err) == (b"", b"histar show: false at line 3: the checkpoint can't be restored\n")
+    fault = re.fullmatch(rb"histar show: unreadable at line (\d+)\n", err)
     return status == 2 and verdict == "unreadable" and out == b"" and fault is not None and has_line(text, int(fault[1]))
 
 

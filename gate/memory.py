@@ -11,7 +11,7 @@ from gate import cases, unproved
 
 LIMIT = 60
 # The names by which a program tells a fault, beside its own, by the verb that it is started with.
-NAMES = {("histar", it): f"histar-{it}" for it in ("check", "try", "show")}
+NAMES = {("histar", it): f"histar {it}" for it in ("check", "try", "show")}
 
 
 def kit():

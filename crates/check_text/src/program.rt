@@ -10,7 +10,7 @@ use std::alloc::Global;
 use std::io::{Read, Write};
 
 /// The program's name, with which its lines on standard error begin.
-pub const NAME: &str = "histar-check";
+pub const NAME: &str = "histar check";
 
 /// The status that a text is told with.
 fn status_of(told: &[u8]) -> u8

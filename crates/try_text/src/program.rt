@@ -17,7 +17,7 @@ use std::rt::Files;
 use std::str;
 
 /// The program's name, with which its lines on standard error begin.
-pub const NAME: &str = "histar-try";
+pub const NAME: &str = "histar try";
 
 /// The line without its end.
 fn without_end(line: &[u8]) -> &[u8]

@@ -14,7 +14,7 @@ use std::io::Write;
 use text_words::{put_name, put_number};
 
 /// The program's name, with which its lines on standard error begin.
-pub const NAME: &str = "histar-show";
+pub const NAME: &str = "histar show";
 
 /// Adds a reply, with each object and category by its number.
 pub fn put_bare(out: &mut Vec<u8>, reply: &Reply) -> Result<(), NoMemory>
