@@ -5,6 +5,7 @@ use Rattle.text_words.specs.declared.spoken_calls.args.ArgKind.TheVariants as ki
 use Rattle.check_text.specs.declared.line_faults.expected.Expected.{Expected}
 use Rattle.check_text.specs.declared.line_faults.expected.Expected.TheVariants as expected
 use Rattle.check_text.specs.declared.line_faults.expected.LineFault.{LineFault}
+use Rattle.check_text.specs.Forms.{form_hint}
 use Rattle.check_text.specs.Hints.{hint}
 use Rattle.check_text.specs.Lines.{before_byte}
 use Rattle.check_text.specs.Places.{place_text}
@@ -74,7 +75,8 @@ malformed_text line fault =
     codes "expected "
     ++ (expected_text fault.expected
     ++ (codes ", found "
-    ++ (found_text (text_at line fault.before) ++ hint fault.expected (text_at line fault.before))))
+    ++ (found_text (text_at line fault.before)
+    ++ (hint fault.expected (text_at line fault.before) ++ form_hint fault.expected line (text_at line fault.before)))))
 
 -- why a well-formed line is faulty, but for a line's number
 abbrev pub standing_words : Reason → List ℕ

@@ -2,6 +2,7 @@ pub mod Lines
 pub mod Places
 pub mod Reasons
 pub mod Hints
+pub mod Forms
 pub mod FaultTexts
 pub mod WarningTexts
 pub mod Checks

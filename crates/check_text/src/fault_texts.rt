@@ -4,6 +4,7 @@ ghost use Rattle.check_text.specs.FaultTexts.{kind_text, expected_text, column_o
 ghost use Rattle.check_text.specs.FaultTexts.{beginning, IsWithin, malformed_text, reason_text, column, fault_text};
 ghost use Rattle.check_text.specs.FaultTexts.{standing_words};
 
+use crate::forms::put_form;
 use crate::hints::put_hint;
 use crate::line_faults::{Expected, LineFault};
 use crate::lines::cut;
@@ -141,7 +142,8 @@ fn put_malformed(
     out.extend_from_slice(b", found ")?;
     let text = text_at(line, fault.before);
     put_found(out, text)?;
-    put_hint(alloc, out, fault.expected, text)
+    put_hint(alloc, out, fault.expected, text)?;
+    put_form(alloc, out, fault.expected, line, text)
 }
 
 /// Why a well-formed line is faulty, but for a line's number.

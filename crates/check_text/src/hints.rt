@@ -157,7 +157,7 @@ fn edits(alloc: Global, word: &[u8], verb: Verb) -> Result<usize, AllocError>
 }
 
 /// The first call that may stand there and is so few edits away.
-fn first_within(
+pub fn first_within(
     alloc: Global,
     binds: bool,
     more: bool,

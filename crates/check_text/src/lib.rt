@@ -6,6 +6,7 @@
 
 mod checks;
 mod fault_texts;
+mod forms;
 mod hints;
 pub mod line_faults;
 mod lines;
