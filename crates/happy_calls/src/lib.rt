@@ -6,3 +6,4 @@ pub mod logged;
 pub mod look;
 pub mod metered;
 pub mod samples;
+pub mod words;

@@ -1,8 +1,8 @@
 //! The scenes by their names.
 use crate::{bound_names, laws, numbers, streams};
 use anyhow::Result;
-use happy_calls::logged;
 use happy_calls::look::Look;
+use happy_calls::{logged, words as public_words};
 use std::alloc::Global;
 use std::sync::Wait;
 use std::thread::Threads;
@@ -13,7 +13,7 @@ use test_structures::{structures, words};
 /// Scenes of words, labels, states, texts and streams. False where none is of that name.
 fn of_words(alloc: Global, scene: &str, look: &mut Look) -> Result<bool> {
     if scene == "base" {
-        words::basics::play(alloc, look)?;
+        public_words::play(alloc, look)?;
     } else if scene == "labels" {
         words::labels::play(alloc, look)?;
     } else if scene == "label_rules" {

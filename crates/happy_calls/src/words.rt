@@ -1,9 +1,12 @@
 //! The words: each public call once, with values from the table.
+ghost use Rattle.std.specs.Prelude.{◌≡◌, ◌||◌, true, false};
+ghost use Rattle.base.specs.Sets.{only, union};
+ghost use Rattle.base.specs.declared.kinds.Kind.TheVariants as kinds;
 
+use crate::look::{Look, agree};
 use anyhow::Result;
 use base::{Data, Kind, Level, Limits, Meter, ObjectId, Refusal, Rights, TypeSet, live_by_path};
 use bitflags::Flags;
-use happy_calls::look::{Look, agree};
 use std::alloc::Global;
 
 fn a_meter_counts(alloc: Global, look: &mut Look) -> Result<()> {
@@ -32,12 +35,16 @@ fn words_are_those_of_the_table(alloc: Global, look: &mut Look) -> Result<()> {
 }
 
 /// Puts threads into a set: what is put in by its bits is in the union.
-fn insert_threads(set: &mut TypeSet) {
+fn insert_threads(set: &mut TypeSet)
+    ensures { set.new ≡ union set.old (only kinds.Thread) }
+{
     set.insert(TypeSet::THREAD);
 }
 
 /// Puts writing into rights.
-fn insert_write(rights: &mut Rights) {
+fn insert_write(rights: &mut Rights)
+    ensures { rights.new ≡ record { read = rights.old.read || false; write = rights.old.write || true } }
+{
     rights.insert(Rights::WRITE);
 }
 
