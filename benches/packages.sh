@@ -1,6 +1,6 @@
 #!/bin/sh
-# What the packages of ./package weigh, as the table of README: the packages, what they lay, a program in C that is linked with the archive,
-# and a start, the least of twenty in milliseconds.
+# A start of the installed program, and of a program in C that is linked with the archive, the least of twenty in milliseconds, and what that
+# one weighs.
 set -eu
 top=$(cd "$(dirname "$0")/.." && pwd)
 . "$top/gate/answer.sh"
@@ -10,12 +10,7 @@ cd "$top"
 room=$(mktemp -d)
 trap 'rm -rf "$room"' EXIT
 kb() { echo "$(($(stat -c %s "$1") / 1000)) KB"; }
-for it in out/packages/*.deb; do
-    name=${it##*/}
-    dpkg-deb -x "$it" "$room/${name%%_*}"
-    echo "| the package ${name%%_*} | $(kb "$it"), $(du -sk --apparent-size "$room/${name%%_*}" | cut -f1) KB installed |"
-done
-echo "| the sources | $(kb out/packages/*.tar.gz) |"
+dpkg-deb -x out/packages/koalaingot_*.deb "$room/koalaingot"
 cc -O2 -Iinclude bindings/c/first_refusal.c out/lib/libhistar.a -Wl,--gc-sections -s -o "$room/linked"
 echo "| a program in C, linked | $(kb "$room/linked") |"
 python3 - "$room" <<'PROGRAM'

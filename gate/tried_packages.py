@@ -137,6 +137,25 @@ def hand_over(tree):
 MOMENTS = 30
 
 
+def megabytes(size):
+    """A size as the documents tell it."""
+    return f"{size / 1_000_000:.1f} MB"
+
+
+def try_sizes(report, made):
+    """The sizes that docs/INSTALL.md tells are those of what is packed: a row for each package, with what it takes once it is installed."""
+    page = text("docs/INSTALL.md")
+    for file in made:
+        size = os.path.getsize(f"{OUT}/{file}")
+        if file.endswith(".deb"):
+            name = file.split("_")[0]
+            installed = 1024 * int(ran("dpkg-deb", "-f", f"{OUT}/{file}", "Installed-Size")[1])
+            row = f"| `{name}` | a package of {megabytes(size)}, {megabytes(installed)} installed |"
+        else:
+            row = f"| the sources | {megabytes(size)} |"
+        report.counts(row in page, f"packages: docs/INSTALL.md has {row}")
+
+
 class Installed:
     """A folder in which ./install lays files, and looks at what it laid."""
 
@@ -292,6 +311,7 @@ def try_all(report, tree="."):
     report.counts(first is not None and first == second and len(first) == 4, f"packages: built twice, the same bytes: {', '.join(first or ())}")
     if first is None:
         return
+    try_sizes(report, first)
     try_faults(report, first)
     try_trees(report, first)
     with tempfile.TemporaryDirectory(prefix="packages-") as top:
