@@ -1,9 +1,6 @@
 """Some crates alone: checked over what earlier checks kept."""
 import os
 import subprocess
-from concurrent.futures import ThreadPoolExecutor
-
-from gate import memory
 
 
 def ran(report, name, *words):

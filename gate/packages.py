@@ -1,6 +1,5 @@
 """The packages: what is laid where, and how it is packed. All that is packed has the time of the commit and modes of its own, so the same
 commit gives the same bytes whoever packs it. ./package packs it, ./install lays it below a folder."""
-import contextlib
 import email.utils
 import gzip
 import hashlib

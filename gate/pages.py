@@ -189,9 +189,9 @@ def browse_dump(report, room, dump, *words):
     page = page_of(dump, f"{room}/page.html", *words) or ""
     places = places_of(dump)
     opened = first_refused(dump) or places[-1]
-    for name, script in (("keys", KEYS), ("held", HELD), ("refused", REFUSED)):
+    for name, typed in (("keys", KEYS), ("held", HELD), ("refused", REFUSED)):
         with open(f"{room}/{name}.html", "w", encoding="utf-8") as it:
-            it.write(page.replace("</body>", f"{script}</body>"))
+            it.write(page.replace("</body>", f"{typed}</body>"))
     cases = [("page", "", opened), ("page", "#99", places[-1]), ("keys", "", places[-2]), ("held", "", places[-1])]
     cases += [("refused", "", first_refused(dump) or (0, 0)), *(("page", f"#{number_of(it)}", it) for it in places if it[1] or it == (3, 0))]
     for file, fragment, place in cases:

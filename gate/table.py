@@ -4,7 +4,6 @@ docs/GATE.md anew, between its two marks: each crate's lines and edits as they s
 crates, and minutes for each thousand lines. ./prove tells how long is left by gate/seconds."""
 import glob
 import os
-import re
 import sys
 
 sys.dont_write_bytecode = True
