@@ -1,4 +1,5 @@
 mod EntryLaws
 mod NumberLaws
+mod LastLaws
 mod LogLaws
 mod PieceLaws

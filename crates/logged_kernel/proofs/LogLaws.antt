@@ -1,6 +1,5 @@
 -- A legal list of events with that of one call more.
-use Rattle.std.proofs.Common.{◌≡◌, ℕ, ◌+◌, ◌==◌, ◌&&◌, nat_lt, nat_le, true, false, if◌then◌else◌, Bool, Option, IfSome, Result, Ok, Err, IfOk, OnOk, OnErr, length, take, List, [], ◌∷◌, ◌++◌, Some, None, refl, sym, ap, ◌∙◌, subst, arith}
-use Rattle.std.proofs.lemmas.Bool.Decides.{nat_tests}
+use Rattle.std.proofs.Common.{◌≡◌, ℕ, ◌+◌, ◌&&◌, nat_lt, nat_le, true, false, Bool, Result, Ok, Err, IfOk, OnOk, OnErr, length, take, List, [], ◌∷◌, ◌++◌, Some, None, refl, sym, ap, ◌∙◌, subst, arith}
 use Rattle.base.specs.declared.ranges.Limits.{Limits}
 use Rattle.checkpoints.proofs.LimitsLaws.{next_limits}
 use Rattle.checkpoints.proofs.SoundLaws.{restorable_whole}
@@ -16,7 +15,7 @@ use Rattle.kernel_rules.specs.Step.{answer, next}
 use Rattle.kernel_rules.specs.declared.calls.Call.{Call}
 use Rattle.kernel_rules.specs.Events.{Event, told}
 use Rattle.kernel_rules.specs.History.{Start, count, state_from, IsLegalFrom}
-use Rattle.kernel_rules.proofs.HistoryLaws.{legal-snoc_from, legal_none_from, state_from-snoc, count-append}
+use Rattle.kernel_rules.proofs.HistoryLaws.{legal-snoc_from, legal_none_from, state_from-snoc}
 use Rattle.syscall_core.proofs.CheckpointLaws.{unrefused}
 use Rattle.syscall_core.specs.Kernel.{kernel_state}
 use Rattle.syscall_core.specs.Restored.{restore_refusal}
@@ -38,7 +37,6 @@ use Rattle.logged_kernel.specs.ReadLines.{line_of, read_of}
 use Rattle.logged_kernel.specs.declared.entries.Entry.{Entry}
 use Rattle.logged_kernel.specs.declared.entries.Entry.TheVariants as entries
 use Rattle.logged_kernel.specs.Logged.{Logged, AreNumbered, IsMade, IsSound, Leads, Writes, event_after, with_call, with_read}
-use Rattle.logged_kernel.specs.Numbers.{AreCounted}
 
 -- the events of a legal list are numbered
 pub numbered : (start : Start) (events : List Event) → IsLegalFrom start events
@@ -112,19 +110,6 @@ sound_begun limits origin s is_new same range fit is = record {
   new = λ e. is;
   log = leads_none limits origin s is;
 }
-
--- an event after which its thread has none has the last number of its thread
-pub number_found : (first : List NextNumber) (events before after : List Event) (e : Event) (thread : ℕ) → AreCounted first events
-    → events ≡ before ++ e ∷ after → e.thread ≡ thread → count thread after ≡ 0
-    → e.number + 1 ≡ count thread events + number_of first thread
-number_found first events before after e thread are split is none =
-    let own : (e.thread == thread) ≡ true = grind (arith, nat_tests) in
-    let one : count thread (e ∷ after) ≡ 1 = ap (λ (p : Bool × ℕ). (if p.0 then 1 else 0) + p.1) (λ j. (own j, none j)) in
-    let number : e.number ≡ count thread before + number_of first thread =
-    are before after e split ∙ ap (λ t. count t before + number_of first t) is in
-    let all : count thread events ≡ count thread before + 1 =
-    ap (count thread) split ∙ count-append thread before (e ∷ after) ∙ ap (λ n. count thread before + n) one in
-    omega arith
 
 called : (P : Type 0) → false ≡ true → P
 called P e = absurd (cc e)
@@ -209,11 +194,6 @@ pub first_later : (limits : Limits) (c : Checkpoint) → is_restorable limits c 
 first_later limits c fit =
     (and_parts (list_all (λ e. nat_lt 0 e.id && has_slots (filled_in e.object.body)) c.objects && threads_rise c.next)
     (list_all (λ (n : NextNumber). nat_le 2 n.number) c.next) ((restorable_whole limits c).0 fit).ordered).1
-
--- a number that may be there
-pub some_by : (o : Option ℕ) (m n : ℕ) → IfSome o (λ x. x ≡ m) → m ≡ n → IfSome o (λ x. x ≡ n)
-some_by None m n h e = tt
-some_by (Some x) m n h e = h ∙ e
 
 -- what follows from three facts of a result
 pub all_three : {A E : Type 0} (r : Result A E) (P Q R S : A → Type 0) → ((x : A) → P x → Q x → R x → S x)

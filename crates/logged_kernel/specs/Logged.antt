@@ -28,6 +28,7 @@ use Rattle.dump_text.specs.declared.tables.PlacedRead.{PlacedRead}
 use Rattle.syscall_core.specs.Kernel.{kernel_state}
 use Rattle.syscall_core.specs.declared.kernel.Kernel.{Kernel}
 use Rattle.logged_kernel.specs.Entries.{Tell, FitsEntry, among, entry_text, events_of}
+use Rattle.logged_kernel.specs.Numbers.{AreLast}
 use Rattle.logged_kernel.specs.ReadLines.{line_of, read_of}
 use Rattle.logged_kernel.specs.declared.entries.Entry.{Entry}
 use Rattle.logged_kernel.specs.declared.entries.Entry.TheVariants as entries
@@ -47,6 +48,11 @@ pub record Logged : Type 0 where
 -- what is kept
 abbrev pub entries_in : Option EventLog → Option (List Entry)
 entries_in log = option_map (λ (l : EventLog). l.entries.items) log
+
+-- the log, where one is kept, has the number of each thread's last event
+abbrev pub IsNumbered : List NextNumber → Option EventLog → Type 0
+IsNumbered first None = Unit {0}
+IsNumbered first (Some log) = AreLast first log.last (events_of log.entries.items)
 
 -- the event of a call that a thread makes after these events: its next number, and the call with its answer
 abbrev pub event_after : Start → List Event → ℕ → Call → Event

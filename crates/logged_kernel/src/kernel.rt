@@ -48,7 +48,7 @@ pub struct LoggedKernel {
 
 impl Model for LoggedKernel {
     ghost use Rattle.syscall_core.specs.Kernel.{kernel_state};
-    ghost use Rattle.logged_kernel.specs.Logged.{Logged, IsSound, entries_in};
+    ghost use Rattle.logged_kernel.specs.Logged.{Logged, IsNumbered, IsSound, entries_in};
 
     ghost Value = { Logged };
 
@@ -62,7 +62,8 @@ impl Model for LoggedKernel {
       reads = k.reads;
     } };
 
-    ghost invariant = { λ k. IsSound k.limits k.origin (kernel_state k.kernel) k.is_new (entries_in k.log) };
+    ghost invariant = { λ k. IsSound k.limits k.origin (kernel_state k.kernel) k.is_new (entries_in k.log)
+        × IsNumbered k.origin.next k.log };
 }
 
 impl LoggedKernel {
@@ -136,10 +137,7 @@ impl LoggedKernel {
         if !self.is_new {
             return false;
         }
-        self.log = Some(EventLog {
-            alloc: self.alloc,
-            entries: Vec::new(self.alloc),
-        });
+        self.log = Some(EventLog::new(self.alloc));
         self.most = most;
         self.reads = reads;
         true
@@ -319,10 +317,7 @@ impl LoggedKernel {
     {
         self.origin = self.checkpoint()?;
         self.is_new = true;
-        self.log = Some(EventLog {
-            alloc: self.alloc,
-            entries: Vec::new(self.alloc),
-        });
+        self.log = Some(EventLog::new(self.alloc));
         self.most = most;
         self.reads = reads;
         Ok(())

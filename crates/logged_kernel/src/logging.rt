@@ -1,9 +1,12 @@
 //! Keeping calls in a log.
-ghost use Rattle.std.specs.Prelude.{◌≡◌, ◌+◌, ◌<◌, ◌≤◌, ◌++◌, ◌∷◌, [], true, IfOk, IfSome, OnOk, OnErr, length, take, drop, vec_len, vec_capacity};
+ghost use Rattle.std.specs.Prelude.{◌≡◌, ◌+◌, ◌<◌, ◌≤◌, ◌==◌, ◌++◌, ◌∷◌, [], ℕ, List, Some, cond, true, IfOk, IfSome, OnOk, OnErr, length, take, drop, vec_len, vec_capacity};
+ghost use Rattle.std.specs.BTreeMap.{get};
+ghost use Rattle.std.specs.Ordering.{nat_cmp};
 ghost use Rattle.base.specs.Limits.{in_range};
 ghost use Rattle.checkpoints.specs.Restorable.{is_restorable};
 ghost use Rattle.checkpoints.specs.Restored.{restored};
 ghost use Rattle.checkpoints.specs.Starts.{number_of};
+ghost use Rattle.checkpoints.specs.declared.checkpoints.NextNumber.{NextNumber as FirstNumber};
 ghost use Rattle.dump_text.specs.Fits.{FitsLine};
 ghost use Rattle.dump_text.specs.Pieces.{piece_at};
 ghost use Rattle.dump_text.specs.declared.lines.Line.TheVariants as lines;
@@ -14,7 +17,7 @@ ghost use Rattle.kernel_rules.specs.Step.{answer, next};
 ghost use Rattle.syscall_core.specs.Kernel.{kernel_state};
 ghost use Rattle.logged_kernel.specs.Entries.{among, events_of};
 ghost use Rattle.logged_kernel.specs.Logged.{FitsPiece, IsTextOf, piece_text};
-ghost use Rattle.logged_kernel.specs.Numbers.{AreCounted};
+ghost use Rattle.logged_kernel.specs.Numbers.{AreLast};
 ghost use Rattle.logged_kernel.specs.ReadLines.{line_of, read_of};
 ghost use Rattle.logged_kernel.specs.declared.entries.Entry.TheVariants as entries;
 
@@ -26,6 +29,7 @@ use dump_text::{Piece, dump_of, head_text, legal_is_dump, piece_at, tables_text}
 use kept_events::{KeptCalls, KeptReply, call_answers};
 use kernel_rules::{Call, Query, Reply, Tables};
 use std::alloc::Global;
+use std::collections::BTreeMap;
 use syscall_core::Kernel;
 
 /// What is kept of calls, the oldest first, and where it takes memory.
@@ -35,23 +39,48 @@ pub struct EventLog {
     pub alloc: Global,
     /// The events, and the reads among them.
     pub entries: Vec<Entry>,
+    /// The number of each thread's last event, so that its next one takes no walk over the events.
+    pub last: BTreeMap<ObjectId, u64>,
+}
+
+impl EventLog {
+    /// A log of nothing.
+    pub(crate) fn new(alloc: Global) -> EventLog
+        ensures entries { result.entries.items ≡ [] }
+        ensures last { (first : List FirstNumber) → AreLast first result.last [] }
+    {
+        EventLog {
+            alloc,
+            entries: Vec::new(alloc),
+            last: BTreeMap::new(alloc),
+        }
+    }
 }
 
 /// The number of a thread's next event after events that begin at the checkpoint; none where the last number was taken.
-fn next_number(origin: &Checkpoint, entries: &[Entry], thread: ObjectId) -> Option<u64>
-    requires { AreCounted origin.now.next (events_of entries.now) }
-    ensures { IfSome result (λ number. number ≡ count thread (events_of entries.now) + number_of origin.now.next thread) }
+fn next_number(origin: &Checkpoint, log: &EventLog, thread: ObjectId) -> Option<u64>
+    requires { AreLast origin.now.next log.now.last (events_of log.now.entries.items) }
+    ensures { IfSome result (λ number.
+        number ≡ count thread (events_of log.now.entries.items) + number_of origin.now.next thread) }
 {
-    let mut place = entries.len();
-    while place > 0 {
-        place -= 1;
-        if let Entry::Event(event) = &entries[place] {
-            if event.thread() == thread {
-                return later(event.number());
-            }
-        }
+    match log.last.get(&thread) {
+        Some(number) => later(*number),
+        None => Some(number_of(origin.next.as_slice(), thread)),
     }
-    Some(number_of(origin.next.as_slice(), thread))
+}
+
+/// Notes the number of a thread's last event. Without memory nothing is noted.
+fn note_last(
+    last: &mut BTreeMap<ObjectId, u64>,
+    thread: ObjectId,
+    number: u64,
+) -> Result<(), NoMemory>
+    ensures noted { OnOk result ((t : ℕ)
+        → get nat_cmp last.new t ≡ cond (thread == t) (Some number) (get nat_cmp last.old t)) }
+    ensures kept { OnErr result ((t : ℕ) → get nat_cmp last.new t ≡ get nat_cmp last.old t) }
+{
+    last.insert(thread, number)?;
+    Ok(())
 }
 
 /// Keeps a call, with room for its event. Nothing else changes, also without memory.
@@ -59,6 +88,7 @@ fn keep_call(log: &mut EventLog, call: &Call) -> Result<KeptCalls, NoMemory>
     ensures kept { IfOk result (λ kept. kept ≡ call.now ∷ []) }
     ensures room { OnOk result (vec_len log.new.entries < vec_capacity log.new.entries) }
     ensures same { log.new.entries.items ≡ log.old.entries.items }
+    ensures last { log.new.last ≡ log.old.last }
 {
     log.entries.reserve(1)?;
     KeptCalls::new(log.alloc, call, &[])
@@ -76,7 +106,8 @@ pub(crate) fn make_kept(
     reply: &mut Reply,
     meter: &mut Meter,
 ) -> Result<(), NoMemory>
-    requires { AreCounted origin.now.next (events_of log.old.entries.items) }
+    requires { AreLast origin.now.next log.old.last (events_of log.old.entries.items) }
+    ensures last { AreLast origin.now.next log.new.last (events_of log.new.entries.items) }
     ensures state { OnOk result
         (kernel_state kernel.new ≡ next (kernel_state kernel.old) thread call.now) }
     ensures reply { OnOk result (reply.new ≡ answer (kernel_state kernel.old) thread call.now) }
@@ -88,10 +119,11 @@ pub(crate) fn make_kept(
     ensures kernel { OnErr result (kernel.new ≡ kernel.old) }
     ensures kept { OnErr result (log.new.entries.items ≡ log.old.entries.items) }
 {
-    let Some(number) = next_number(origin, log.entries.as_slice(), thread) else {
+    let Some(number) = next_number(origin, log, thread) else {
         return Err(NoMemory);
     };
     let kept = keep_call(log, call)?;
+    note_last(&mut log.last, thread, number)?;
     kernel.step_into(thread, call, reply, meter);
     call_answers();
     let event = kept.event(thread, number, KeptReply::new(reply), &[]);
@@ -111,6 +143,7 @@ pub(crate) fn keep_read(
         ≡ among (line_of (read_of thread query.now reply.now)) log.old.entries.items) }
     ensures fits { OnOk result (FitsLine (lines.Read (read_of thread query.now reply.now))) }
     ensures same { OnErr result (log.new.entries.items ≡ log.old.entries.items) }
+    ensures last { log.new.last ≡ log.old.last }
 {
     let read = KeptRead::new(log.alloc, thread, query, reply, meter)?;
     let place = place_of(log.entries.as_slice(), thread);

@@ -13,5 +13,5 @@ returns c =
     let numbered = subst (λ (l : Logged). AreNumbered l c.in_ok-next.next.items) (sym c.self.view_is) c.in_ok-next.ensures.numbers in
     all_three c.checkpoint.result _ _ _ _ (λ made state next fit.
     subst (λ (l : Logged). Writes l made) c.self.view_is
-    (writes view made c.in_ok-next.next.items c.self.invariant.same state next fit numbered))
+    (writes view made c.in_ok-next.next.items c.self.invariant.0.same state next fit numbered))
     c.checkpoint.ensures.state c.checkpoint.ensures.next (c.checkpoint.ensures.fit whole)

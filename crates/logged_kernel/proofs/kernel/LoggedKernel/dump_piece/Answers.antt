@@ -9,10 +9,10 @@ pub returns-clause-piece : goal.returns-clause-piece
 returns-clause-piece c =
     let k = c.self.inside in
     let leads = subst (λ (l : Option EventLog). IsLog (start_of k.limits k.origin) (kernel_state k.kernel) (entries_in l)) c.in-Some.is
-    c.self.invariant.log in
+    c.self.invariant.0.log in
     subst (λ (l : Logged). IsPieceOf l c.args.number (Some c.in_ok-text.text.items)) c.self.view_is (
       c.in-Some.log.entries.items,
       ap entries_in c.in-Some.is,
       record { text = c.in_ok-text.ensures.text; fits = c.in_ok-text.ensures.fits },
-      record { range = c.self.invariant.range; begin = c.self.invariant.fit; leads = leads },
+      record { range = c.self.invariant.0.range; begin = c.self.invariant.0.fit; leads = leads },
     )

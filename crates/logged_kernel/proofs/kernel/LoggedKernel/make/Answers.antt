@@ -12,15 +12,19 @@ invariant_of-self-2 c =
     let sound : (log : Option EventLog) → k.log ≡ log
     → IsSound k.limits k.origin (kernel_state k.kernel) k.is_new (entries_in log) =
     λ log is. subst (λ (l : Option EventLog). IsSound k.limits k.origin (kernel_state k.kernel) k.is_new (entries_in l)) is
-    c.self.invariant in
+    c.self.invariant.0 in
     elim c.match-self.branch [
-      | in-None w ↦ rw (w.self-inside-is, w.in-None.is)
-          (sound_called k.limits k.origin (kernel_state k.kernel) (kernel_state w.step_into.new.self) k.is_new c.args.thread
-          c.args.call.now (sound _ w.in-None.is) w.step_into.ensures.state)
-      | in-Some+in_ok-make_kept-in-Some w ↦ rw w.self-inside-is
-          (sound_kept k.limits k.origin (kernel_state k.kernel) (kernel_state w.make_kept.new.kernel) k.is_new
-          w.in-Some.log.entries.items w.make_kept.new.log.entries.items c.args.thread c.args.call.now
-          (sound _ w.in-Some.is) w.in_ok-make_kept-in-Some.ensures.state w.in_ok-make_kept-in-Some.ensures.event)
+      | in-None w ↦ rw (w.self-inside-is, w.in-None.is) (
+        (sound_called k.limits k.origin (kernel_state k.kernel) (kernel_state w.step_into.new.self) k.is_new c.args.thread
+            c.args.call.now (sound _ w.in-None.is) w.step_into.ensures.state),
+        tt,
+      )
+      | in-Some+in_ok-make_kept-in-Some w ↦ rw w.self-inside-is (
+        (sound_kept k.limits k.origin (kernel_state k.kernel) (kernel_state w.make_kept.new.kernel) k.is_new
+            w.in-Some.log.entries.items w.make_kept.new.log.entries.items c.args.thread c.args.call.now
+            (sound _ w.in-Some.is) w.in_ok-make_kept-in-Some.ensures.state w.in_ok-make_kept-in-Some.ensures.event),
+        w.make_kept.ensures.last,
+      )
     ]
 
 pub returns-clause-made : goal.returns-clause-made
@@ -30,7 +34,7 @@ returns-clause-made c =
     let sound : (log : Option EventLog) → k.log ≡ log
     → IsSound k.limits k.origin (kernel_state k.kernel) k.is_new (entries_in log) =
     λ log is. subst (λ (l : Option EventLog). IsSound k.limits k.origin (kernel_state k.kernel) k.is_new (entries_in l)) is
-    c.self.invariant in
+    c.self.invariant.0 in
     elim c.match-self.branch [
       | in-None w ↦ rw (w.self-inside-is, w.in-None.is)
           (subst (λ (l : Logged). IsMade l (record { kernel = w.step_into.new.self; limits = k.limits; origin = k.origin; is_new = false; log = None; most = k.most; reads = k.reads })

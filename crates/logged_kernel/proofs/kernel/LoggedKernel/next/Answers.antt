@@ -7,7 +7,7 @@ use Rattle.logged_kernel.proofs.LogLaws.{all_three, first_later}
 use Rattle.logged_kernel.proofs.kernel.LoggedKernel.next.Goals as goal
 
 pub next_numbers-requires-clause-first : goal.next_numbers-requires-clause-first
-next_numbers-requires-clause-first c = first_later c.self.inside.limits c.self.inside.origin c.self.invariant.fit
+next_numbers-requires-clause-first c = first_later c.self.inside.limits c.self.inside.origin c.self.invariant.0.fit
 
 pub returns-clause-whole : goal.returns-clause-whole
 returns-clause-whole c =
