@@ -1406,6 +1406,21 @@ static inline uint32_t histar_log_cut(histar *k, uint64_t most, uint64_t keeps)
  * stands above the text's call on the stack goes on. Any other is refused HISTAR_BUSY, until a close. */
 typedef uint32_t (*histar_put)(void *context, const void *part, size_t len);
 
+/* Room that a text is written into, and how much of it is left. */
+typedef struct {
+    unsigned char *at;
+    size_t left;
+} histar_space;
+static inline uint32_t histar_fills(void *space, const void *part, size_t len)
+{
+    histar_space *it = (histar_space *)space;
+    if (len > it->left) return HISTAR_BOUNDS;
+    memcpy(it->at, part, len);
+    it->at += len;
+    it->left -= len;
+    return HISTAR_DONE;
+}
+
 /* A text that is given: of which kernel in which turn, and where it goes. */
 typedef struct {
     histar *k;
@@ -1445,7 +1460,7 @@ static inline uint32_t histar_puts(histar_stream *it, size_t len)
         memcpy(k->part + filled, k->answer.bytes, some);
         filled += some;
         if (refusal || (filled < sizeof k->part && at + some < len)) continue;
-        refusal = histar_gives_part(it, filled);
+        refusal = it->put == histar_fills ? histar_fills(it->context, k->part, filled) : histar_gives_part(it, filled);
         filled = 0;
     }
     return refusal;
@@ -1533,21 +1548,6 @@ HISTAR_LOOKED_AT(1, 2)
 static inline uint32_t histar_checkpoint_to(histar *k, histar_put put, void *context)
 {
     return histar_streamed(k, HISTAR_CALL_CHECKPOINT, put, context);
-}
-
-/* Room that a text is written into, and how much of it is left. */
-typedef struct {
-    unsigned char *at;
-    size_t left;
-} histar_space;
-static inline uint32_t histar_fills(void *space, const void *part, size_t len)
-{
-    histar_space *it = (histar_space *)space;
-    if (len > it->left) return HISTAR_BOUNDS;
-    memcpy(it->at, part, len);
-    it->at += len;
-    it->left -= len;
-    return HISTAR_DONE;
 }
 
 /* Writes a text into room of the caller's: first it is asked how long it is. */

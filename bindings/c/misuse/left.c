@@ -1,7 +1,7 @@
 /* Calls that do not come back: a jump, the end of a thread or a close out of the function that a text goes to, a jump out of a call by the
  * handler of a signal, at any of its instructions. And calls by handlers, what a record keeps, and a small stack. */
 #include "misuse.h"
-#include <malloc.h>
+#include "../wrapped.h"
 #include <pthread.h>
 #include <setjmp.h>
 #include <signal.h>
@@ -55,8 +55,9 @@ static uint32_t called_after_a_jump(void)
 __attribute__((noinline)) static uint32_t calls_from_deep(void)
 {
     volatile char deep[1 << 14];
+    uint32_t refusal = is_called(&its);
     deep[0] = 0;
-    return deep[0] ? 0 : is_called(&its);
+    return deep[0] ? 0 : refusal;
 }
 static uint32_t called_from_deep_after_a_jump(void)
 {
@@ -248,11 +249,23 @@ static uint32_t dumps(void)
     wrote_len = 0;
     return histar_dump_to(&its, keeps, NULL);
 }
-/* The call is left at one of its instructions, and the kernel closed: how much of the heap stays, and whether the call came to its end. */
-static size_t stays;
+/* The call is left at one of its instructions, and the kernel closed: how many blocks of the heap stay, and whether the call came to its end. */
+static long blocks, stays;
+void *__wrap_malloc(size_t len)
+{
+    void *it = __real_malloc(len);
+    __atomic_fetch_add(&blocks, it != NULL, __ATOMIC_RELAXED);
+    return it;
+}
+void *__wrap_realloc(void *old, size_t len) { return __real_realloc(old, len); }
+void __wrap_free(void *old)
+{
+    __atomic_fetch_sub(&blocks, old != NULL, __ATOMIC_RELAXED);
+    __real_free(old);
+}
 static void *is_left(void *is_logged)
 {
-    size_t before = mallinfo2().uordblks;
+    long before = blocks;
     must(histar_open(&its, 8));
     if (is_logged) must(histar_log_on(&its, UINT64_MAX, HISTAR_LOG_ALL));
     must(is_called(&its));
@@ -264,13 +277,13 @@ static void *is_left(void *is_logged)
         left_at = 0;
     }
     told = histar_close(&its);
-    stays = mallinfo2().uordblks - before;
+    stays = blocks - before;
     return NULL;
 }
 /* The call is left at each so manyth of its instructions, each time by a thread of its own, whose heap a jump out of malloc would spoil. */
 static uint32_t left(uint32_t (*asks)(void), int is_logged, long times)
 {
-    long at, count, every;
+    long at, count, every, lost = 0;
     asked = asks;
     left_at = -1;
     must((uint32_t)pthread_create(&giver, NULL, is_left, is_logged ? &its : NULL));
@@ -282,22 +295,31 @@ static uint32_t left(uint32_t (*asks)(void), int is_logged, long times)
         must((uint32_t)pthread_create(&giver, NULL, is_left, is_logged ? &its : NULL));
         pthread_join(giver, NULL);
         if (told || !left_at) return told ? told : HISTAR_BUSY;
-        /* (a block that malloc has just given, or free is about to take) */
-        if (stays > 4096) return printf("%zu bytes stay after a jump at step %ld of %ld\n", stays, at, count), HISTAR_MEMORY;
+        /* (a block that malloc has just given stays, or one that free is about to take, and no other) */
+        if (stays < 0 || stays > 1) return HISTAR_BOUNDS;
+        lost += stays;
     }
-    return HISTAR_DONE;
+    return lost > times / 10 + 1 ? HISTAR_MEMORY : HISTAR_DONE;
 }
-static uint32_t left_in_a_write(void) { return left(writes, 0, 2000); }
-static uint32_t left_in_a_logged_write(void) { return left(writes, 1, 2000); }
-static uint32_t left_in_a_dump(void) { return left(dumps, 1, 500); }
+#ifndef TIMES
+#define TIMES 400
+#endif
+static uint32_t left_in_a_write(void) { return left(writes, 0, TIMES); }
+static uint32_t left_in_a_logged_write(void) { return left(writes, 1, TIMES); }
+static uint32_t left_in_a_dump(void) { return left(dumps, 1, TIMES / 10 + 1); }
 
 /* ---- Calls by handlers ---- */
 
 /* A handler calls another kernel, whose log takes memory, also where the heap was interrupted: it is refused memory then. */
 static volatile long lacked, made, closes_made;
+static uint32_t reads(histar *kernel)
+{
+    histar_self self;
+    return histar_self_get(kernel, HISTAR_BOOT, &self);
+}
 static void logs(int signal)
 {
-    uint32_t refusal = is_called(&other);
+    uint32_t refusal = reads(&other);
     (void)signal;
     if (refusal == HISTAR_MEMORY) lacked++;
     else if (!refusal) made++;
@@ -308,16 +330,16 @@ static void logs(int signal)
 }
 static uint32_t logged_by_a_handler(void)
 {
-    struct itimerval often = {{0, 20}, {0, 20}}, never_again = {{0, 0}, {0, 0}};
+    struct itimerval often = {{0, 300}, {0, 300}}, never_again = {{0, 0}, {0, 0}};
     lacked = made = closes_made = 0;
     opens_its();
     must(histar_open(&other, 8));
     must(histar_log_on(&other, UINT64_MAX, HISTAR_LOG_ALL));
     signal(SIGALRM, logs);
     setitimer(ITIMER_REAL, &often, NULL);
-    for (int i = 0; i < 4000 || (!lacked && i < 400000); i++) {
+    for (int i = 0; i < 100 || (!(lacked && made) && i < 100000); i++) {
         must(histar_log_cut(&its, UINT64_MAX, HISTAR_LOG_ALL));
-        must(is_called(&its));
+        must(reads(&its));
     }
     setitimer(ITIMER_REAL, &never_again, NULL);
     must(histar_close(&its));
