@@ -28,7 +28,7 @@ FUZZ_SECONDS = int(os.environ.get("FUZZ_SECONDS", "60"))
 THREAD_SECONDS = int(os.environ.get("THREAD_SECONDS", "60"))
 WARNINGS = ["-Wall", "-Wextra", "-Wpedantic", "-Werror"]
 WRAPPED = "-Wl,--wrap=malloc,--wrap=realloc,--wrap=free"
-MISUSE = ("misuse", "-pthread", WRAPPED)
+MISUSE = ("misuse", "-pthread", f"{WRAPPED},--wrap=histar_layout")
 MANIFEST = ["--offline", "--manifest-path", "bindings/rust/Cargo.toml"]
 
 
@@ -221,11 +221,15 @@ class Bindings:
             self.report.counts(not self.is_warned_of(compiler, "(void)0") and self.is_warned_of(compiler, call), f"{compiler} warns of {call}")
 
     def is_seen(self, compiler, header):
-        """Whether some row of the table of misuse goes otherwise by a header. A row that ends the program, or does not end, goes otherwise."""
+        """Whether some row of the table of misuse goes otherwise by a header, or a secret stays. A row that ends the program, or does not
+        end, goes otherwise."""
         self.write_wrong(header)
-        misuse = f"{self.room}/wrong/misuse"
-        words = self.words_of([compiler, "-std=gnu11"], MISUSE[0], misuse, "-O2", *MISUSE[1:], "-w", f"-I{self.room}/wrong")
-        return run(*words)[0] and not run("timeout", "60", misuse)[0]
+        for source, *flags in (MISUSE, ("forgotten.c", "-pthread")):
+            program = f"{self.room}/wrong/program"
+            words = self.words_of([compiler, "-std=gnu11"], source, program, "-O2", *flags, "-w", f"-I{self.room}/wrong")
+            if run(*words)[0] and not run("timeout", "60", program)[0]:
+                return True
+        return False
 
     def is_warned_of(self, compiler, call):
         """Whether a compiler warns of a statement."""
@@ -248,15 +252,14 @@ class Bindings:
             self.report.counts(ran("timeout", "60", program) == (0, "1 1\n"), f"{compiler}: an exception, or a thread's end, costs a text alone")
 
     def try_forgotten(self, compiler):
-        """Nothing of a secret is left in the process, and the search finds what is left on purpose. Libraries of other layouts."""
+        """Nothing of a secret is left in the process, and the search finds what is left on purpose. And a child of fork."""
         program = self.compile([compiler, "-std=gnu11"], "forgotten.c", "forgotten", *WARNINGS, "-pthread")
         if program:
             self.counts("C: a kernel that is closed leaves nothing of a secret in the process", program)
             self.report.counts(ran(program, "found")[0] == 1, "C: the search finds a copy that is left on purpose")
-        wrapped = "-Wl,--wrap=histar_layout,--wrap=madvise"
-        program = self.compile([compiler, "-std=gnu11"], "other_layout.c", "other_layout", *WARNINGS, wrapped)
+        program = self.compile([compiler, "-std=gnu11"], "emptied.c", "emptied", *WARNINGS, "-Wl,--wrap=madvise")
         if program:
-            self.report.counts(ran(program) == (0, "0 0 32 32 30\n"), "C: a library with more of the same layout is opened, and no other")
+            self.counts("C: a child of fork is refused where the system empties no page", program)
 
     def try_documented(self, language, compiler, *links):
         """The program of docs/EMBED.md in a language, compiled so, prints what the text below it says."""

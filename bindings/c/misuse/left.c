@@ -308,6 +308,31 @@ static uint32_t left_in_a_write(void) { return left(writes, 0, TIMES); }
 static uint32_t left_in_a_logged_write(void) { return left(writes, 1, TIMES); }
 static uint32_t left_in_a_dump(void) { return left(dumps, 1, TIMES / 10 + 1); }
 
+/* A call of another thread that goes on is left by nobody. */
+static void *calls_long(void *given)
+{
+    (void)given;
+    must(histar_taken(&its));
+    __atomic_store_n(&is_waiting, 1, __ATOMIC_SEQ_CST);
+    while (!__atomic_load_n(&may_go, __ATOMIC_SEQ_CST)) usleep(100);
+    histar_released(&its, HISTAR_DONE);
+    return NULL;
+}
+static uint32_t closed_in_another_threads_call(void)
+{
+    uint32_t refusal;
+    must(histar_open(&its, 8));
+    is_waiting = may_go = 0;
+    must((uint32_t)pthread_create(&giver, NULL, calls_long, NULL));
+    while (!__atomic_load_n(&is_waiting, __ATOMIC_SEQ_CST)) usleep(100);
+    refusal = histar_close(&its);
+    __atomic_store_n(&may_go, 1, __ATOMIC_SEQ_CST);
+    pthread_join(giver, NULL);
+    must(is_called(&its));
+    must(histar_close(&its));
+    return refusal;
+}
+
 /* ---- Calls by handlers ---- */
 
 /* A handler calls another kernel, whose log takes memory, also where the heap was interrupted: it is refused memory then. */
@@ -475,6 +500,27 @@ static uint32_t lives_on_little_stack(void)
     return ended ? HISTAR_DONE : HISTAR_BUSY;
 }
 
+/* ---- Libraries of other layouts, by a function in place of the library's own ---- */
+
+static int more;
+uint32_t __real_histar_layout(void);
+uint32_t __wrap_histar_layout(void);
+uint32_t __wrap_histar_layout(void) { return __real_histar_layout() + (uint32_t)more; }
+
+static uint32_t opened_by(int its_more, int is_shared)
+{
+    uint32_t refusal;
+    more = its_more;
+    refusal = is_shared ? histar_share(&its, 8, 9) : histar_open(&its, 8);
+    more = 0;
+    must(histar_close(&its));
+    return refusal;
+}
+static uint32_t opened_with_more(void) { return opened_by(1, 0); }
+static uint32_t opened_with_less(void) { return opened_by(-1, 0); }
+static uint32_t opened_with_others(void) { return opened_by(1000, 0); }
+static uint32_t shared_with_less(void) { return opened_by(-1, 1); }
+
 const struct row LEFT[] = {
     {"a call after a jump out of what takes a dump", HISTAR_DONE, called_after_a_jump},
     {"a call from deep after a jump out of what takes a checkpoint", HISTAR_BUSY, called_from_deep_after_a_jump},
@@ -490,11 +536,16 @@ const struct row LEFT[] = {
     {"a close after a jump out of any step of a write", HISTAR_DONE, left_in_a_write},
     {"a close after a jump out of any step of a logged write", HISTAR_DONE, left_in_a_logged_write},
     {"a close after a jump out of any step of a dump", HISTAR_DONE, left_in_a_dump},
+    {"a close in the call of another thread", HISTAR_BUSY, closed_in_another_threads_call},
     {"a logged call by a handler that interrupts the heap", HISTAR_MEMORY, logged_by_a_handler},
     {"a close by a handler on a stack above", HISTAR_BUSY, closed_by_a_handler_above},
     {"a log that keeps 2", HISTAR_BAD_BATCH, logged_otherwise},
     {"a log that is cut and keeps 2^64 - 1", HISTAR_BAD_BATCH, cut_otherwise},
     {"a label and a closure after calls", HISTAR_DONE, label_and_closure_after_calls},
     {"a life on little stack", HISTAR_DONE, lives_on_little_stack},
+    {"an open by a library with more", HISTAR_DONE, opened_with_more},
+    {"an open by a library with less", HISTAR_OTHER_VERSION, opened_with_less},
+    {"an open by a library with other records", HISTAR_OTHER_VERSION, opened_with_others},
+    {"a share by a library with less", HISTAR_OTHER_VERSION, shared_with_less},
     {NULL, HISTAR_DONE, NULL},
 };
