@@ -222,7 +222,8 @@ struct Text<'a> {
 impl Text<'_> {
     /// Makes a piece. How long it is: 0 past the last.
     fn cut(&mut self, number: u64) -> Result<usize, Refused> {
-        let len = self.taken.ask(|request| request.put(self.part, &Entry::NONE, [number]), |answer| answer.numbers[0])?;
+        let len =
+            self.taken.ask(|request| request.put(self.part, &Entry::NONE, [number]), |answer| answer.numbers[0])?;
         Ok(len as usize)
     }
 
