@@ -47,7 +47,7 @@ GUARDS = (
     ("    histar_drops_text(k);\n    return HISTAR_DONE;\n", "    return HISTAR_DONE;\n"),
     ("        histar_wipes(k->part, sizeof k->part);\n", ""),
     ("        histar_wipe_stack();\n    }\n", "    }\n"),
-    ("    refusal = histar_booted(k);\n    histar_wipe_stack();\n", "    refusal = histar_booted(k);\n"),
+    ("    refusal = histar_booted(k);\n    histar_wipe_below(HISTAR_TEXT_STACK);\n", "    refusal = histar_booted(k);\n"),
     (" || layout < HISTAR_LAYOUT", ""),
     ("layout / 1000 != HISTAR_LAYOUT / 1000 || ", ""),
     ("layout / 1000 != HISTAR_LAYOUT / 1000 || layout < HISTAR_LAYOUT", "layout != HISTAR_LAYOUT"),

@@ -347,8 +347,14 @@ void histar_waits(void);
 void histar_blocks_of(void **blocks);
 void histar_blocks_end(void **blocks);
 
-/* Wipes what calls of this thread left on its stack. Closes, opens at a text and texts do so; a thread that made other calls does it at its end. */
-void histar_wipe_stack(void);
+/* Wipes so much of the stack below. */
+void histar_wipe_below(size_t depth);
+
+/* How much stack is needed: by calls and closes, and by opens at a text and texts, of which those that keep a seat's take most. */
+enum { HISTAR_CALL_STACK = 28 << 10, HISTAR_TEXT_STACK = 56 << 10 };
+
+/* Wipes what calls of this thread left on its stack. Closes, opens at a text and texts do so; a thread that made calls does it at its end. */
+static inline void histar_wipe_stack(void) { histar_wipe_below(HISTAR_CALL_STACK); }
 
 /* ---- A kernel ---- */
 
@@ -574,7 +580,7 @@ static inline uint32_t histar_open_at(histar *k, const void *text, size_t len)
     histar_blocks_of(&k->blocks);
     histar_boot_at(text, len, k->room);
     refusal = histar_booted(k);
-    histar_wipe_stack();
+    histar_wipe_below(HISTAR_TEXT_STACK);
     return histar_released(k, refusal);
 }
 
@@ -760,7 +766,9 @@ static inline uint32_t histar_asks(histar *k, uint32_t call, histar_object threa
 /* Wipes what a call asked with: its numbers, and the labels that it has. */
 static inline void histar_wipes_label(histar_label *label)
 {
-    if (label->default_level || label->count) histar_wipes(label, sizeof *label);
+    uint16_t head;
+    memcpy(&head, label, sizeof head); /* the default level, and how many pairs there are */
+    if (head) histar_wipes(label, sizeof *label);
 }
 static inline void histar_wipes_request(histar_request *request)
 {
@@ -1498,7 +1506,7 @@ static inline void histar_text_ends(histar_stream *it)
     if (__atomic_load_n(&k->turn, __ATOMIC_RELAXED) != (it->turn | HISTAR_IS_CALLED) && !histar_takes_turn(k, it->turn | HISTAR_IS_GIVING, it->turn)) return;
     histar_drops_text(k);
     (void)histar_told(k, HISTAR_DONE);
-    histar_wipe_stack();
+    histar_wipe_below(HISTAR_TEXT_STACK);
 }
 #define HISTAR_ENDS __attribute__((cleanup(histar_text_ends)))
 

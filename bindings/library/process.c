@@ -62,14 +62,6 @@ void histar_waits(void)
     syscall(SYS_nanosleep, &millisecond, NULL);
 }
 
-/* How deep calls go. */
-#ifndef HISTAR_DEPTH
-#define HISTAR_DEPTH 57344
-#endif
-__attribute__((noinline)) void histar_wipe_stack(void)
-{
-    unsigned char below[HISTAR_DEPTH];
-    explicit_bzero(below, sizeof below);
-}
+__attribute__((noinline)) void histar_wipe_below(size_t depth) { explicit_bzero(__builtin_alloca(depth), depth); }
 
 uint32_t histar_layout(void) { return HISTAR_LAYOUT; }

@@ -1,5 +1,5 @@
 //! The log of a kernel's calls, and its checkpoints.
-use crate::raw::{wipe_stack, wipe_text, Raw, Taken};
+use crate::raw::{wipe_below, wipe_text, Raw, Taken, TEXT_STACK};
 use crate::{Entry, Kernel, Refused};
 use std::io;
 
@@ -253,6 +253,6 @@ impl Drop for Text<'_> {
         }
         self.bytes.resize(PART, 0);
         wipe_text(&mut self.bytes);
-        wipe_stack();
+        wipe_below(TEXT_STACK);
     }
 }

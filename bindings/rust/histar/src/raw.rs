@@ -132,7 +132,7 @@ extern "C" {
     fn histar_layout() -> u32;
     static histar_process: *const u64;
     fn histar_process_begins() -> u64;
-    fn histar_wipe_stack();
+    fn histar_wipe_below(depth: usize);
     fn histar_boot(pages: u32, device_level: u8, next_id: u64, next_category: u64, room: *mut Room);
     fn histar_boot_at(text: *const u8, len: usize, room: *mut Room);
     fn histar_call(room: *mut Room, request: *const Request, answer: *mut Answer) -> u32;
@@ -172,10 +172,14 @@ fn process() -> u64 {
     unsafe { histar_process.read_volatile() }
 }
 
-/// Wipes what calls left on this thread's stack.
-pub(crate) fn wipe_stack() {
-    // SAFETY: the function takes nothing, and writes below this stack frame alone.
-    unsafe { histar_wipe_stack() }
+/// How much stack is needed, by calls and by texts.
+const CALL_STACK: usize = 28 << 10;
+pub(crate) const TEXT_STACK: usize = 56 << 10;
+
+/// Wipes so much of this thread's stack below.
+pub(crate) fn wipe_below(depth: usize) {
+    // SAFETY: the function writes below this stack frame alone.
+    unsafe { histar_wipe_below(depth) }
 }
 
 /// Wipes a text that nobody reads again.
@@ -314,7 +318,7 @@ impl Raw {
         unsafe {
             histar_boot_at(text.as_ptr(), text.len(), &mut *room);
             let opened = Raw::of(room, Holds::Kernel);
-            wipe_stack();
+            wipe_below(TEXT_STACK);
             opened
         }
     }
@@ -441,7 +445,7 @@ impl Drop for Raw {
         }
         wipe(&mut room.0);
         self.records.get_mut().wipe();
-        wipe_stack();
+        wipe_below(CALL_STACK);
     }
 }
 
