@@ -11,14 +11,18 @@
  *   HISTAR_NO_ENTRY (the container does not list the object, and is not the object).
  * - HISTAR_BAD_BATCH comes where the arguments make no call: a level above 4, 25 pairs in a label, 65 bytes, a number that
  *   is too large for its place. Numbers are taken as 64 bits, and no bit is lost on the way.
- * - HISTAR_UNAVAILABLE comes where the kernel is not open: it was closed, was never opened, or is a copy of another's
- *   bytes. HISTAR_BUSY comes where another call uses it: by another thread, or by the code that a signal interrupted.
- *   Nothing is done then, and the call may be made again.
+ * - HISTAR_UNAVAILABLE comes where the kernel is not open: it was closed, was never opened, is a copy of another's
+ *   bytes, or was opened by another process: a child of fork opens its own. HISTAR_BUSY comes where another call uses it: by another thread,
+ *   or by the code that a signal interrupted. Nothing is done then, and the call may be made again.
+ * - No handler of a signal may call. It is refused HISTAR_BUSY where it interrupted a call of this kernel, and HISTAR_MEMORY where it interrupted
+ *   any kernel's malloc; nothing tells where it interrupted the program's own. A call that a handler leaves by siglongjmp is lost, and the
+ *   kernel can be closed then (histar_close).
  * - It takes no memory, prints nothing and never waits. Only the opens take memory, checkpoints, and what the log needs: a
  *   call that is kept, up to the bound that histar_log_on was given, histar_log_cut and dumps. Of a kernel that
  *   threads share, the opens and each write call take memory, and a write call may sleep where another's is not ended.
- * - The bytes and labels that it gave or took stand in no record of the kernel once it returns. The library keeps the last
- *   call and the last reply inside the room, and histar_close wipes all of it.
+ * - The bytes, numbers and labels that it gave or took stand in no record of the kernel once it returns. The library keeps the last
+ *   call and the last reply inside the room, and histar_close wipes all of it. All memory is cleared before it is given back.
+ * - It needs up to HISTAR_CALL_STACK bytes of stack; a text and an open at one HISTAR_TEXT_STACK.
  *
  * One call at a time uses a kernel. Threads that call one kernel keep a lock around the calls, or are told HISTAR_BUSY; or
  * they share it, each by a seat of its own (histar_share). */

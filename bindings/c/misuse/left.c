@@ -302,11 +302,11 @@ static uint32_t left(uint32_t (*asks)(void), int is_logged, long times)
     return lost > times / 10 + 1 ? HISTAR_MEMORY : HISTAR_DONE;
 }
 #ifndef TIMES
-#define TIMES 400
+#define TIMES 120
 #endif
 static uint32_t left_in_a_write(void) { return left(writes, 0, TIMES); }
 static uint32_t left_in_a_logged_write(void) { return left(writes, 1, TIMES); }
-static uint32_t left_in_a_dump(void) { return left(dumps, 1, TIMES / 10 + 1); }
+static uint32_t left_in_a_dump(void) { return left(dumps, 1, TIMES / 20 + 1); }
 
 /* A call of another thread that goes on is left by nobody. */
 static void *calls_long(void *given)
