@@ -774,7 +774,7 @@ static inline void histar_wipes_label(histar_label *label)
     memcpy(&head, label, sizeof head); /* the default level, and how many pairs there are */
     if (head) histar_wipes(label, sizeof *label);
 }
-static inline void histar_wipes_request(histar_request *request)
+__attribute__((noinline, unused)) static void histar_wipes_request(histar_request *request)
 {
     histar_wipes(request->numbers, sizeof request->numbers);
     histar_wipes_label(&request->label);
@@ -790,10 +790,15 @@ static inline uint32_t histar_over(histar *k, uint32_t refusal)
     return histar_released(k, refusal);
 }
 static inline uint32_t histar_done(histar *k) { return histar_over(k, histar_serves(k)); }
-static inline uint32_t histar_told(histar *k, uint32_t refusal)
+__attribute__((noinline, unused)) static void histar_wipes_records(histar *k)
 {
     histar_wipes(&k->answer, sizeof k->answer);
-    return histar_over(k, refusal);
+    histar_wipes_request(&k->request);
+}
+static inline uint32_t histar_told(histar *k, uint32_t refusal)
+{
+    histar_wipes_records(k);
+    return histar_released(k, refusal);
 }
 static inline uint32_t histar_counted(histar *k, uint64_t *number)
 {

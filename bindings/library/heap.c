@@ -40,51 +40,49 @@ static struct tried tried(struct head *made)
     return told;
 }
 
-static struct head *made(size_t size)
+/* Whoever follows a list from its beginning finds each of its blocks whole, at whatever instruction a call is left. */
+static void put(struct head **list, struct head *it)
 {
-    struct head *it = size <= PTRDIFF_MAX - sizeof *it ? malloc(sizeof *it + size) : NULL;
-    if (it) it->size = size;
-    return it;
-}
-
-/* Whoever follows a list from its beginning finds each block whole, at whatever instruction a call is left. */
-static void put(struct head *volatile *volatile list, struct head *volatile it)
-{
-    it->at = (struct head **)list;
-    if (!list) return;
-    it->next = *list;
-    if (*list) (*list)->at = &it->next;
-    *list = it;
+    it->at = list;
+    it->next = list ? *list : NULL;
+    __atomic_signal_fence(__ATOMIC_SEQ_CST);
+    if (list) *list = it;
+    __atomic_signal_fence(__ATOMIC_SEQ_CST);
+    if (it->next) it->next->at = &it->next;
 }
 static void take(struct head *it)
 {
     if (!it->at) return;
-    *(struct head *volatile *)it->at = it->next;
+    *it->at = it->next;
+    __atomic_signal_fence(__ATOMIC_SEQ_CST);
     if (it->next) it->next->at = it->at;
 }
-static void cleared(struct head *it) { explicit_bzero(it + 1, it->size); }
 
-/* Leaves the heap, and frees what waits. */
-static void leave(void)
+/* Frees a block, and what waited meanwhile. */
+static void give_back(struct head *it)
 {
-    struct head *it = __atomic_exchange_n(&heap.waits, NULL, __ATOMIC_RELAXED), *next;
-    for (; it; it = next) {
+    struct head *next;
+    while (it) {
         next = it->next;
+        heap.is_in = 1;
         free(it);
+        heap.is_in = 0;
+        it = next ? next : __atomic_exchange_n(&heap.waits, NULL, __ATOMIC_RELAXED);
     }
-    heap.is_in = 0;
 }
 
 /* A block of so many bytes at a multiple of 16, which the proved code asks for no more than. */
 struct tried rattle_alloc(size_t size, size_t alignment)
 {
-    struct head *it;
+    struct head **blocks = heap.blocks, *it;
     (void)alignment;
-    if (heap.is_in) return tried(NULL);
+    if (heap.is_in || size > PTRDIFF_MAX - sizeof *it) return tried(NULL);
     heap.is_in = 1;
-    it = made(size);
-    if (it) put(heap.blocks, it);
-    leave();
+    it = malloc(sizeof *it + size);
+    heap.is_in = 0;
+    if (!it) return tried(NULL);
+    it->size = size;
+    put(blocks, it);
     return tried(it);
 }
 
@@ -102,16 +100,15 @@ struct tried rattle_realloc(void *block, size_t kept, size_t size, size_t alignm
 void rattle_dealloc(void *block)
 {
     struct head *it = head_of(block);
-    cleared(it);
+    explicit_bzero(it + 1, it->size);
     take(it);
-    if (heap.is_in) {
-        it->next = heap.waits;
-        heap.waits = it;
+    it->next = NULL;
+    if (!heap.is_in) {
+        give_back(it);
         return;
     }
-    heap.is_in = 1;
-    free(it);
-    leave();
+    it->next = heap.waits;
+    heap.waits = it;
 }
 
 /* What this thread asks for from here on is kept in a kernel's list; with none, in no list. */
@@ -120,5 +117,10 @@ void histar_blocks_of(void **blocks) { heap.blocks = (struct head **)blocks; }
 /* Gives back all blocks of a list, which nobody points to any more. */
 void histar_blocks_end(void **blocks)
 {
-    while (*blocks) rattle_dealloc((struct head *)*blocks + 1);
+    struct head *it;
+    while ((it = *blocks)) {
+        *blocks = it->next;
+        it->at = NULL;
+        rattle_dealloc(it + 1);
+    }
 }

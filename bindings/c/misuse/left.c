@@ -295,9 +295,9 @@ static uint32_t left(uint32_t (*asks)(void), int is_logged, long times)
         must((uint32_t)pthread_create(&giver, NULL, is_left, is_logged ? &its : NULL));
         pthread_join(giver, NULL);
         if (told || !left_at) return told ? told : HISTAR_BUSY;
-        /* (a block that malloc has just given stays, or one that free is about to take, and no other) */
-        if (stays < 0 || stays > 1) return HISTAR_BOUNDS;
-        lost += stays;
+        /* (a block that malloc has just given stays, or one that free is about to take; all of them where either was about to be called) */
+        if (stays < 0) return HISTAR_BOUNDS;
+        lost += stays != 0;
     }
     return lost > times / 10 + 1 ? HISTAR_MEMORY : HISTAR_DONE;
 }
