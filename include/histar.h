@@ -767,34 +767,38 @@ static inline uint32_t histar_asks(histar *k, uint32_t call, histar_object threa
     return HISTAR_DONE;
 }
 
-/* Wipes what a call asked with: its numbers, and the labels that it has. */
+/* Wipes what a call asked with, and what it was answered: bytes, numbers, and the labels that it has. */
 static inline void histar_wipes_label(histar_label *label)
 {
     uint16_t head;
     memcpy(&head, label, sizeof head); /* the default level, and how many pairs there are */
     if (head) histar_wipes(label, sizeof *label);
 }
-__attribute__((noinline, unused)) static void histar_wipes_request(histar_request *request)
+__attribute__((noinline, unused)) static void histar_wipes_call(histar *k)
 {
-    histar_wipes(request->numbers, sizeof request->numbers);
-    histar_wipes_label(&request->label);
-    histar_wipes_label(&request->clearance);
-    histar_wipes_label(&request->verify);
+    histar_wipes(k->request.numbers, sizeof k->request.numbers);
+    histar_wipes(k->request.bytes, sizeof k->request.bytes);
+    histar_wipes_label(&k->request.label);
+    histar_wipes_label(&k->request.clearance);
+    histar_wipes_label(&k->request.verify);
+    histar_wipes(k->answer.numbers, sizeof(uint64_t));
+    histar_wipes(k->answer.bytes, sizeof k->answer.bytes);
+}
+/* The same, and all that was answered. */
+__attribute__((noinline, unused)) static void histar_wipes_records(histar *k)
+{
+    histar_wipes(&k->answer, sizeof k->answer);
+    histar_wipes_call(k);
 }
 
 /* The ends of a call: of one that answers nothing but its refusal, of one whose answer was read, of one that answers a number, of
  * one that made something, of one that gives bytes, and of one that takes some, of which 64 may be written. */
 static inline uint32_t histar_over(histar *k, uint32_t refusal)
 {
-    histar_wipes_request(&k->request);
+    histar_wipes_call(k);
     return histar_released(k, refusal);
 }
 static inline uint32_t histar_done(histar *k) { return histar_over(k, histar_serves(k)); }
-__attribute__((noinline, unused)) static void histar_wipes_records(histar *k)
-{
-    histar_wipes(&k->answer, sizeof k->answer);
-    histar_wipes_request(&k->request);
-}
 static inline uint32_t histar_told(histar *k, uint32_t refusal)
 {
     histar_wipes_records(k);
@@ -804,19 +808,15 @@ static inline uint32_t histar_counted(histar *k, uint64_t *number)
 {
     uint32_t refusal = histar_serves(k);
     if (!refusal && number) *number = k->answer.numbers[0];
-    histar_wipes(k->answer.numbers, sizeof(uint64_t));
     return histar_over(k, refusal);
 }
 static inline uint32_t histar_made(histar *k, histar_object *made) { return histar_counted(k, made ? &made->id : NULL); }
 static inline uint32_t histar_gives(histar *k, const void *bytes, uint64_t len)
 {
-    uint32_t refusal;
     if (len > 64) return histar_over(k, HISTAR_BAD_BATCH);
     k->request.len = (uint32_t)len;
     if (len) memcpy(k->request.bytes, bytes, len);
-    refusal = histar_serves(k);
-    histar_wipes(k->request.bytes, sizeof k->request.bytes);
-    return histar_over(k, refusal);
+    return histar_done(k);
 }
 static inline uint32_t histar_takes(histar *k, void *bytes, uint64_t size, size_t *len)
 {
@@ -825,7 +825,6 @@ static inline uint32_t histar_takes(histar *k, void *bytes, uint64_t size, size_
     refusal = histar_serves(k);
     if (!refusal) memcpy(bytes, k->answer.bytes, k->answer.len);
     if (!refusal && len) *len = k->answer.len;
-    histar_wipes(k->answer.bytes, sizeof k->answer.bytes);
     return histar_over(k, refusal);
 }
 
