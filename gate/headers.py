@@ -49,6 +49,8 @@ GUARDS = (
     ("        histar_wipes(k->part, sizeof k->part);\n", ""),
     ("        histar_wipe_stack();\n    }\n", "    }\n"),
     ("    refusal = histar_booted(k);\n    histar_wipe_below(HISTAR_TEXT_STACK);\n", "    refusal = histar_booted(k);\n"),
+    ("call->call <= HISTAR_CALL_LOAD ? histar_serves(k) : (uint32_t)HISTAR_BAD_BATCH", "histar_serves(k)"),
+    ("    k->request.thread = thread.id;\n    refusal = call->call", "    refusal = call->call"),
     (" || layout < HISTAR_LAYOUT", ""),
     ("layout / 1000 != HISTAR_LAYOUT / 1000 || ", ""),
     ("layout / 1000 != HISTAR_LAYOUT / 1000 || layout < HISTAR_LAYOUT", "layout != HISTAR_LAYOUT"),

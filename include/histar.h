@@ -730,7 +730,7 @@ static inline uint32_t histar_cuts(histar *k, uint32_t call, uint64_t at, size_t
     k->request.numbers[0] = at;
     refusal = histar_serves(k);
     *len = refusal ? 0 : (size_t)k->answer.numbers[0];
-    k->is_text = *len != 0;
+    if (!refusal) k->is_text = *len != 0;
     return refusal;
 }
 /* Leaves nothing of a text in the library or here. */
@@ -1315,6 +1315,23 @@ static inline uint32_t histar_load(histar *k, histar_object thread, uint64_t add
     return histar_takes(k, bytes, 64, NULL);
 }
 /* (the end of what is made) */
+
+/* ---- Calls as records ---- */
+
+/* Makes the call of a record, for what keeps calls as data: it has the number of a write or read call, 1 to 34, and the fields that the
+ * function of the call fills, but for the thread. The answer is written where it is not refused; fields that it does not have are 0. */
+HISTAR_LOOKED_AT(1, 3, 4)
+static inline uint32_t histar_make(histar *k, histar_object thread, const histar_request *call, histar_answer *answer)
+{
+    uint32_t refusal = histar_asks(k, call->call, thread, HISTAR_NOWHERE);
+    if (refusal) return refusal;
+    k->request = *call;
+    k->request.thread = thread.id;
+    refusal = call->call <= HISTAR_CALL_LOAD ? histar_serves(k) : (uint32_t)HISTAR_BAD_BATCH;
+    if (!refusal) *answer = k->answer;
+    k->request.len = 0;
+    return histar_told(k, refusal);
+}
 
 /* ---- Notes between seats of a shared kernel ---- */
 

@@ -500,6 +500,38 @@ static uint32_t lives_on_little_stack(void)
     return ended ? HISTAR_DONE : HISTAR_BUSY;
 }
 
+/* ---- Calls as records ---- */
+
+static histar_request recorded(uint32_t call, uint64_t object)
+{
+    histar_request it;
+    memset(&it, 0, sizeof it);
+    it.call = call;
+    it.thread = 99; /* (which is not looked at) */
+    it.container = HISTAR_ROOT.id;
+    it.object = object;
+    it.numbers[1] = 3;
+    return it;
+}
+static uint32_t made_of(histar *kernel, uint32_t call, uint64_t object)
+{
+    histar_request it = recorded(call, object);
+    histar_answer answer;
+    memset(&answer, 7, sizeof answer);
+    uint32_t refusal = histar_make(kernel, HISTAR_BOOT, &it, &answer);
+    if (!refusal) return answer.len == 3 && !answer.bytes[3] && !answer.label.count && !has_more(&kernel->request) ? refusal : HISTAR_BOUNDS;
+    for (size_t i = 0; i < sizeof answer; i++)
+        if (((unsigned char *)&answer)[i] != 7) return HISTAR_DONE;
+    return refusal;
+}
+static uint32_t read_by_record(void) { return made_of(&k, HISTAR_CALL_SEGMENT_READ, secret.id); }
+static uint32_t record_of_no_call(void) { return made_of(&k, 0, secret.id); }
+static uint32_t record_of_a_look_up(void) { return made_of(&k, HISTAR_CALL_KEPT_LIVE, secret.id); }
+static uint32_t record_of_a_log(void) { return made_of(&k, HISTAR_CALL_LOG_ON, secret.id); }
+static uint32_t record_of_a_call_in_a_batch(void) { return made_of(&seat, HISTAR_CALL_IN_BATCH + HISTAR_CALL_CAT_CREATE, secret.id); }
+static uint32_t record_of_a_closed_kernel(void) { return made_of(&closed, HISTAR_CALL_SEGMENT_READ, secret.id); }
+static uint32_t record_that_is_refused(void) { return made_of(&seat, HISTAR_CALL_SEGMENT_READ, 99); }
+
 /* ---- Libraries of other layouts, by a function in place of the library's own ---- */
 
 static int more;
@@ -543,6 +575,13 @@ const struct row LEFT[] = {
     {"a log that is cut and keeps 2^64 - 1", HISTAR_BAD_BATCH, cut_otherwise},
     {"a label and a closure after calls", HISTAR_DONE, label_and_closure_after_calls},
     {"a life on little stack", HISTAR_DONE, lives_on_little_stack},
+    {"a read by a record", HISTAR_DONE, read_by_record},
+    {"a record of no call", HISTAR_BAD_BATCH, record_of_no_call},
+    {"a record of a look-up", HISTAR_BAD_BATCH, record_of_a_look_up},
+    {"a record of a log", HISTAR_BAD_BATCH, record_of_a_log},
+    {"a record of a call in a batch", HISTAR_BAD_BATCH, record_of_a_call_in_a_batch},
+    {"a record after the close", HISTAR_UNAVAILABLE, record_of_a_closed_kernel},
+    {"a record that the rules refuse", HISTAR_NO_ENTRY, record_that_is_refused},
     {"an open by a library with more", HISTAR_DONE, opened_with_more},
     {"an open by a library with less", HISTAR_OTHER_VERSION, opened_with_less},
     {"an open by a library with other records", HISTAR_OTHER_VERSION, opened_with_others},
