@@ -50,7 +50,7 @@ extern "C" {
 
 /* The layout of the records below and what their numbers mean: 1,000 times a number that is another one where that changes, and how much was
  * added since. Nothing is opened by a library whose layout has another meaning, or is older than this one. */
-#define HISTAR_LAYOUT 1000
+#define HISTAR_LAYOUT 1001
 
 /* What such a function returns is looked at, and these of its arguments are not NULL: gcc and clang warn. */
 #define HISTAR_LOOKED_AT(...) __attribute__((warn_unused_result, nonnull(__VA_ARGS__)))
@@ -768,21 +768,31 @@ static inline uint32_t histar_asks(histar *k, uint32_t call, histar_object threa
 }
 
 /* Wipes what a call asked with, and what it was answered: bytes, numbers, and the labels that it has. */
+static inline uint32_t histar_head(const histar_label *label)
+{
+    uint16_t head; /* the default level, and how many pairs there are: 0 of a label that was wiped */
+    memcpy(&head, label, sizeof head);
+    return head;
+}
 static inline void histar_wipes_label(histar_label *label)
 {
-    uint16_t head;
-    memcpy(&head, label, sizeof head); /* the default level, and how many pairs there are */
-    if (head) histar_wipes(label, sizeof *label);
+    volatile histar_category *pair = label->categories, *end = pair + (label->count < 24 ? label->count : 24);
+    for (; pair < end; pair++) pair->number = 0;
+    histar_wipes(label, offsetof(histar_label, categories));
+}
+__attribute__((noinline, unused)) static void histar_wipes_labels(histar_request *request)
+{
+    histar_wipes_label(&request->label);
+    histar_wipes_label(&request->clearance);
+    histar_wipes_label(&request->verify);
 }
 __attribute__((noinline, unused)) static void histar_wipes_call(histar *k)
 {
     histar_wipes(k->request.numbers, sizeof k->request.numbers);
     histar_wipes(k->request.bytes, sizeof k->request.bytes);
-    histar_wipes_label(&k->request.label);
-    histar_wipes_label(&k->request.clearance);
-    histar_wipes_label(&k->request.verify);
     histar_wipes(k->answer.numbers, sizeof(uint64_t));
     histar_wipes(k->answer.bytes, sizeof k->answer.bytes);
+    if (histar_head(&k->request.label) | histar_head(&k->request.clearance) | histar_head(&k->request.verify)) histar_wipes_labels(&k->request);
 }
 /* The same, and all that was answered. */
 __attribute__((noinline, unused)) static void histar_wipes_records(histar *k)

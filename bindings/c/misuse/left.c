@@ -455,6 +455,8 @@ static uint32_t label_and_closure_after_calls(void)
     must(histar_store(&its, HISTAR_BOOT, 77, "x", 1) != HISTAR_NOT_MAPPED);
     must(histar_self_get(&its, HISTAR_BOOT, &self));
     if (has_more(&its.request)) return HISTAR_BOUNDS;
+    for (size_t i = 0; i < sizeof its.answer; i++)
+        if (((unsigned char *)&its.answer)[i]) return HISTAR_BOUNDS;
     return histar_close(&its);
 }
 

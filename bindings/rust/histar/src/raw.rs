@@ -140,7 +140,7 @@ extern "C" {
 }
 
 /// The layout of these records, as `HISTAR_LAYOUT` has it.
-const LAYOUT: u32 = 1000;
+const LAYOUT: u32 = 1001;
 
 /// Whether a library of this layout has records with the same meaning, and all that these have.
 const fn suits(library: u32) -> bool {
@@ -456,6 +456,6 @@ mod tests {
     #[test]
     fn a_library_with_more_of_the_same_meaning_suits() {
         assert!(suits(LAYOUT) && suits(LAYOUT + 1));
-        assert!(!suits(LAYOUT - 1) && !suits(LAYOUT + 1000) && !suits(100));
+        assert!(!suits(LAYOUT - 1) && !suits(LAYOUT - 1000) && !suits(LAYOUT + 1000) && !suits(100));
     }
 }
