@@ -620,6 +620,12 @@ static uint32_t dump_by_a_reader(void) { return with_a_reader(dumps_by_it); }
 static uint32_t readers_at_once(void) { return with_a_reader(reads_at_once); }
 static uint32_t reader_of_a_kernel(void) { return histar_reader_open(&reader, &k); }
 static uint32_t reader_of_a_closed_seat(void) { return histar_reader_open(&reader, &unseated); }
+static uint32_t reader_of_a_copy(void)
+{
+    static histar copy;
+    memcpy(&copy, &seat, sizeof seat);
+    return histar_reader_open(&reader, &copy);
+}
 static uint32_t reader_of_itself(void) { return histar_reader_open(&reader, &reader); }
 static uint32_t reader_of_a_seat_in_a_call(void)
 {
@@ -897,6 +903,7 @@ static const struct row ROWS[] = {
     {"a reader of a reader", HISTAR_UNAVAILABLE, reader_of_a_reader},
     {"a reader of a kernel", HISTAR_UNAVAILABLE, reader_of_a_kernel},
     {"a reader of a closed seat", HISTAR_UNAVAILABLE, reader_of_a_closed_seat},
+    {"a reader of a copy of a seat", HISTAR_UNAVAILABLE, reader_of_a_copy},
     {"a reader of itself", HISTAR_BUSY, reader_of_itself},
     {"a reader of a seat in a call", HISTAR_BUSY, reader_of_a_seat_in_a_call},
     {"a call by a closed reader", HISTAR_UNAVAILABLE, called_by_a_closed_reader},
