@@ -280,6 +280,14 @@ def own_arm(call):
     return f"{indent}{head} => {{\n" + "".join(f"{indent}    {it}\n" for it in [*opening, value]) + f"{indent}}}\n"
 
 
+def shown_arm(call):
+    """The arm that prints a call, but of bytes how many there are."""
+    if call.name == "gate_create":
+        return '            Call::GateCreate(gate) => f.debug_tuple("GateCreate").field(gate).finish(),\n'
+    opening = [f"let {it.name} = &Length({it.name}.len());" for it in call.of("bytes")]
+    return arm(pattern(call), [*opening, f"shown!({', '.join(['f', chr(34) + call.camel + chr(34), *names(call)])})"], " " * 12)
+
+
 def read_test(reads):
     """The test whether a call changes nothing."""
     kinds = [f"Call::{it.camel}{' { .. }' if it.arguments else ''}\n" for it in reads]
@@ -475,7 +483,7 @@ def parts(all_calls):
             joined(function_in_c, writes, "\n"),
             joined(function_in_c, reads, "\n")]),
         (f"{RUST}/call.rs", rust, [
-            joined(variant), joined(own_arm), read_test(reads)]),
+            joined(variant), joined(own_arm), read_test(reads), joined(shown_arm)]),
         (f"{RUST}/records.rs", rust, [joined(write_arm), joined(lambda it: f'    "{it.name}",\n')]),
         ("bindings/rust/histar/examples/play/words.rs", rust, [joined(played_in_rust)]),
         ("docs/CALLS.md", ("|---|---|---|---|", ""), [joined(row, writes), joined(row, reads)]),

@@ -27,6 +27,8 @@ LOGGED_CALLS = 1_000_000
 FUZZ_SECONDS = int(os.environ.get("FUZZ_SECONDS", "60"))
 THREAD_SECONDS = int(os.environ.get("THREAD_SECONDS", "60"))
 WARNINGS = ["-Wall", "-Wextra", "-Wpedantic", "-Werror"]
+WRAPPED = "-Wl,--wrap=malloc,--wrap=realloc,--wrap=free"
+MISUSE = ("misuse", "-pthread", f"{WRAPPED},--wrap=histar_layout")
 MANIFEST = ["--offline", "--manifest-path", "bindings/rust/Cargo.toml"]
 
 
@@ -210,7 +212,7 @@ class Bindings:
 
     def try_misuse(self, compiler):
         """The table of misuse, by the header, by one without each guard, and what a compiler warns of."""
-        misuse = self.compile([compiler, "-std=gnu11"], "misuse.c", "misuse", *WARNINGS, "-pthread")
+        misuse = self.compile([compiler, "-std=gnu11"], MISUSE[0], "misuse-played", *WARNINGS, *MISUSE[1:])
         if misuse:
             self.counts("C: each row of the table of misuse is refused, and changes nothing", misuse)
         missed = [str(line) for line, header in unguarded(text("include/histar.h")) if not (header and self.is_seen(compiler, header))]
@@ -219,11 +221,15 @@ class Bindings:
             self.report.counts(not self.is_warned_of(compiler, "(void)0") and self.is_warned_of(compiler, call), f"{compiler} warns of {call}")
 
     def is_seen(self, compiler, header):
-        """Whether some row of the table of misuse goes otherwise by a header. A row that ends the program, or does not end, goes otherwise."""
+        """Whether some row of the table of misuse goes otherwise by a header, or a secret stays. A row that ends the program, or does not
+        end, goes otherwise."""
         self.write_wrong(header)
-        misuse = f"{self.room}/wrong/misuse"
-        words = self.words_of([compiler, "-std=gnu11"], "misuse.c", misuse, "-O2", "-pthread", "-w", f"-I{self.room}/wrong")
-        return run(*words)[0] and not run("timeout", "60", misuse)[0]
+        for source, *flags in (MISUSE, ("forgotten.c", "-pthread")):
+            program = f"{self.room}/wrong/program"
+            words = self.words_of([compiler, "-std=gnu11"], source, program, "-O2", *flags, "-w", f"-I{self.room}/wrong")
+            if run(*words)[0] and not run("timeout", "60", program)[0]:
+                return True
+        return False
 
     def is_warned_of(self, compiler, call):
         """Whether a compiler warns of a statement."""
@@ -238,6 +244,22 @@ class Bindings:
         if program:
             said = ran(program)
             self.report.counts(said == (0, "the owner reads key\nrefused 5 CannotObserve\n"), f"{name}: the first program")
+
+    def try_thrown(self, compiler):
+        """What a text goes to throws, and the kernel goes on."""
+        program = self.compile([compiler, "-std=c++17"], "thrown.cpp", f"thrown-{compiler}".replace("+", "p"), *WARNINGS, "-pthread")
+        if program:
+            self.report.counts(ran("timeout", "60", program) == (0, "1 1\n"), f"{compiler}: an exception, or a thread's end, costs a text alone")
+
+    def try_forgotten(self, compiler):
+        """Nothing of a secret is left in the process, and the search finds what is left on purpose. And a child of fork."""
+        program = self.compile([compiler, "-std=gnu11"], "forgotten.c", "forgotten", *WARNINGS, "-pthread")
+        if program:
+            self.counts("C: a kernel that is closed leaves nothing of a secret in the process", program)
+            self.report.counts(ran(program, "found")[0] == 1, "C: the search finds a copy that is left on purpose")
+        program = self.compile([compiler, "-std=gnu11"], "emptied.c", "emptied", *WARNINGS, "-Wl,--wrap=madvise")
+        if program:
+            self.counts("C: a child of fork is refused where the system empties no page", program)
 
     def try_documented(self, language, compiler, *links):
         """The program of docs/EMBED.md in a language, compiled so, prints what the text below it says."""
@@ -265,12 +287,14 @@ class Bindings:
         for compiler in ("g++", "clang++"):
             if shutil.which(compiler):
                 self.try_header(compiler, "c++17", "-x", "c++")
+                self.try_thrown(compiler)
             else:
                 self.leave_out("C++", f"{compiler} is not on the path")
         if compilers:
             self.try_memory(compilers[0])
             self.try_wrong_headers(compilers[0])
             self.try_misuse(compilers[0])
+            self.try_forgotten(compilers[0])
             self.try_threads(compilers[0])
             self.try_coming_back(compilers[0])
             login = self.compile([compilers[0], "-std=c11"], "login.c", "login", *WARNINGS)
@@ -286,8 +310,7 @@ class Bindings:
         soak = self.compile([compiler, "-std=gnu11"], "soak.c", "soak", *WARNINGS)
         if soak:
             self.soak(soak)
-        wrapped = "-Wl,--wrap=malloc,--wrap=realloc,--wrap=free"
-        long_log = self.compile([compiler, "-std=gnu11"], "long_log.c", "long_log", *WARNINGS, wrapped)
+        long_log = self.compile([compiler, "-std=gnu11"], "long_log.c", "long_log", *WARNINGS, WRAPPED)
         if long_log:
             self.counts(f"the dump of {LOGGED_CALLS:,} calls takes no more memory than that of 1,000", long_log, str(LOGGED_CALLS))
         self.compile([compiler, "-std=gnu11"], "bench.c", "bench", *WARNINGS)
@@ -322,8 +345,7 @@ class Bindings:
         if threads:
             self.counts(f"C: eight threads share a kernel for {THREAD_SECONDS} seconds", threads, str(THREAD_SECONDS))
             self.audit_seats(threads)
-        wrapped = "-Wl,--wrap=malloc,--wrap=realloc,--wrap=free"
-        given = self.compile([compiler, "-std=gnu11"], "given_back.c", "given_back", *WARNINGS, "-pthread", wrapped)
+        given = self.compile([compiler, "-std=gnu11"], "given_back.c", "given_back", *WARNINGS, "-pthread", WRAPPED)
         if given:
             self.counts(f"C: what all seats have seen is given back, over {SHARED_CALLS:,} calls", given, str(SHARED_CALLS), str(THREAD_SECONDS))
         self.compile([compiler, "-std=gnu11"], "shared_bench.c", "shared_bench", *WARNINGS, "-pthread")
@@ -364,8 +386,7 @@ class Bindings:
 
     def try_refused(self, compiler):
         """A kernel is opened with each request for memory refused in turn, and calls take none."""
-        wrapped = "-Wl,--wrap=malloc,--wrap=realloc,--wrap=free"
-        opener = self.compile([compiler, "-std=gnu11"], "refused_memory.c", "opener", *WARNINGS, wrapped)
+        opener = self.compile([compiler, "-std=gnu11"], "refused_memory.c", "opener", *WARNINGS, WRAPPED)
         if opener:
             self.counts("C: a kernel is opened with each request for memory refused in turn, and calls take none", opener)
 

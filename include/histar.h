@@ -11,21 +11,24 @@
  *   HISTAR_NO_ENTRY (the container does not list the object, and is not the object).
  * - HISTAR_BAD_BATCH comes where the arguments make no call: a level above 4, 25 pairs in a label, 65 bytes, a number that
  *   is too large for its place. Numbers are taken as 64 bits, and no bit is lost on the way.
- * - HISTAR_UNAVAILABLE comes where the kernel is not open: it was closed, was never opened, or is a copy of another's
- *   bytes. HISTAR_BUSY comes where another call uses it: by another thread, or by the code that a signal interrupted.
- *   Nothing is done then, and the call may be made again.
+ * - HISTAR_UNAVAILABLE comes where the kernel is not open: it was closed, was never opened, is a copy of another's
+ *   bytes, or was opened by another process: a child of fork opens its own. HISTAR_BUSY comes where another call uses it: by another thread,
+ *   or by the code that a signal interrupted. Nothing is done then, and the call may be made again.
+ * - No handler of a signal may call. It is refused HISTAR_BUSY where it interrupted a call of this kernel, and HISTAR_MEMORY where it interrupted
+ *   any kernel's malloc; nothing tells where it interrupted the program's own. A call that a handler leaves by siglongjmp is lost, and the
+ *   kernel can be closed then (histar_close).
  * - It takes no memory, prints nothing and never waits. Only the opens take memory, checkpoints, and what the log needs: a
  *   call that is kept, up to the bound that histar_log_on was given, histar_log_cut and dumps. Of a kernel that
  *   threads share, the opens and each write call take memory, and a write call may sleep where another's is not ended.
- * - The bytes and labels that it gave or took stand in no record of the kernel once it returns. The library keeps the last
- *   call and the last reply inside the room, and histar_close wipes all of it.
+ * - The bytes, numbers and labels that it gave or took stand in no record of the kernel once it returns. The library keeps the last
+ *   call and the last reply inside the room, and histar_close wipes all of it. All memory is cleared before it is given back.
+ * - It needs up to HISTAR_CALL_STACK bytes of stack; a text and an open at one HISTAR_TEXT_STACK.
  *
  * One call at a time uses a kernel. Threads that call one kernel keep a lock around the calls, or are told HISTAR_BUSY; or
  * they share it, each by a seat of its own (histar_share). */
 #ifndef HISTAR_H
 #define HISTAR_H
 
-#include <poll.h>
 #include <sched.h>
 #include <stddef.h>
 #include <stdint.h>
@@ -38,12 +41,16 @@
 extern "C" {
 #else
 #define HISTAR_ALIGNED _Alignas(16)
-#define HISTAR_INIT {{0}, 0, 0, 0, {0, 0, 0}, 0, 0, {0}, {0}}
+#define HISTAR_INIT {{0}, 0, 0, 0, 0, 0, 0, 0, 0, 0, {0, 0, 0}, 0, 0, {0}, {0}, {0}}
 #endif
 
-/* The version of this header. The library that it is used with has the same, or nothing is opened. */
+/* The version of this header. */
 #define HISTAR_VERSION "0.1.0"
 #define HISTAR_VERSION_NUMBER 100
+
+/* The layout of the records below and what their numbers mean: 1,000 times a number that is another one where that changes, and how much was
+ * added since. Nothing is opened by a library whose layout has another meaning, or is older than this one. */
+#define HISTAR_LAYOUT 1001
 
 /* What such a function returns is looked at, and these of its arguments are not NULL: gcc and clang warn. */
 #define HISTAR_LOOKED_AT(...) __attribute__((warn_unused_result, nonnull(__VA_ARGS__)))
@@ -308,7 +315,8 @@ typedef struct {
  * histar_boot and histar_boot_at make it hold a kernel, or why there is none, which histar_call then returns. histar_end makes it room
  * again. A room that holds a kernel is not to be copied or booted again. */
 size_t histar_size(void);
-uint32_t histar_version(void); /* as HISTAR_VERSION_NUMBER */
+uint32_t histar_version(void); /* as HISTAR_VERSION_NUMBER, of the library */
+uint32_t histar_layout(void);  /* as HISTAR_LAYOUT, of the library */
 void histar_boot(uint32_t pages, uint8_t device_level, uint64_t next_id, uint64_t next_category, void *room);
 void histar_boot_at(const void *text, size_t len, void *room);
 uint32_t histar_call(void *room, const histar_request *request, histar_answer *answer);
@@ -331,6 +339,27 @@ void histar_reader_of(void *seat, void *reader);
 uint32_t histar_reader_call(void *reader, const histar_request *request, histar_answer *answer);
 void histar_reader_end(void *reader);
 
+/* What the functions below ask of the system. The number of this process, which a child of fork finds 0; a number for this process, which gives
+ * 0 where there is no memory for it; whether this thread is on the stack of a signal's handler; a wait of a millisecond. */
+extern const volatile uint64_t *histar_process;
+uint64_t histar_process_begins(void);
+int histar_is_on_signal_stack(void);
+void histar_waits(void);
+
+/* The list in which the blocks are kept that this thread asks for from here on, so that they can be given back where a call is left in the
+ * middle; none without one. */
+void histar_blocks_of(void **blocks);
+void histar_blocks_end(void **blocks);
+
+/* Wipes so much of the stack below. */
+void histar_wipe_below(size_t depth);
+
+/* How much stack is needed: by calls and closes, and by opens at a text and texts, of which those that keep a seat's take most. */
+enum { HISTAR_CALL_STACK = 28 << 10, HISTAR_TEXT_STACK = 56 << 10 };
+
+/* Wipes what calls of this thread left on its stack. Closes, opens at a text and texts do so; a thread that made calls does it at its end. */
+static inline void histar_wipe_stack(void) { histar_wipe_below(HISTAR_CALL_STACK); }
+
 /* ---- A kernel ---- */
 
 /* What a seat has seen: how many calls, of which a batch counts as one, and of which shared kernel: where its first seat stood, and since
@@ -342,14 +371,25 @@ typedef struct {
 /* A kernel, a seat or a reader, or one that is closed. It begins as HISTAR_INIT, or is static; it is not to be copied while it is open. */
 typedef struct histar {
     HISTAR_ALIGNED unsigned char room[3072];
-    const void *open_at;         /* where it stands while it is open */
-    unsigned char is_busy;       /* a call uses it */
+    uintptr_t open_at;           /* where it stands while it is open, under the number of the process, */
+    uint64_t process;            /* which is this one */
+    uintptr_t caller, below;     /* the thread whose call has it, and a place on its stack below which that call stands */
+    uint32_t turn;               /* how often it was taken, and how it is */
+    uint32_t readers;            /* of a seat: how many readers of it are open */
     unsigned char is_seat;       /* it is a seat of a kernel that threads share, */
+    unsigned char takes_memory;  /* it is a kernel whose calls may take memory */
+    unsigned char is_text;       /* the library has a piece of a text */
     histar_note shared;          /* of this one, with no calls */
     struct histar *of;           /* it is a reader of this seat */
-    uint32_t readers;            /* of a seat: how many readers of it are open */
+    void *blocks;                /* what a kernel has of memory */
     histar_request request;
     histar_answer answer;
+    unsigned char part[4096];    /* of a text */
+#ifdef __cplusplus
+    histar() = default;
+    histar(const histar &) = delete;
+    histar &operator=(const histar &) = delete;
+#endif
 } histar;
 
 /* Wipes bytes that nobody reads again, so that the compiler may not leave it out. */
@@ -359,16 +399,57 @@ static inline void histar_wipes(void *bytes, size_t len)
     __asm__ __volatile__("" : : "r"(bytes) : "memory");
 }
 
-/* Takes the kernel for one call; it is open, or not: HISTAR_BUSY where another call has it. */
-static inline uint32_t histar_taken(histar *k)
+/* How a kernel is, in the low bits of its turn: free; a call has it; or a call of which a function of the caller's is given a text. */
+enum { HISTAR_IS_FREE, HISTAR_IS_CALLED, HISTAR_IS_GIVING, HISTAR_TURN };
+static inline uint32_t histar_how(uint32_t turn) { return turn & HISTAR_TURN; }
+
+/* The thread, and where its stack is: what it calls stands below. */
+static inline uintptr_t histar_thread(void)
 {
-    return __atomic_test_and_set(&k->is_busy, __ATOMIC_ACQUIRE) ? HISTAR_BUSY : HISTAR_DONE;
+    uintptr_t at;
+    __asm__("mov %%fs:0, %0" : "=r"(at));
+    return at;
 }
-static inline int histar_is_open(const histar *k) { return __atomic_load_n(&k->open_at, __ATOMIC_RELAXED) == k; }
+__attribute__((always_inline)) static inline uintptr_t histar_stack(void)
+{
+    uintptr_t at;
+    __asm__ __volatile__("mov %%rsp, %0" : "=r"(at));
+    return at;
+}
+
+/* Takes the kernel for one call where it is in this turn; it is open, or not. */
+__attribute__((always_inline)) static inline int histar_takes_turn(histar *k, uint32_t turn, uint32_t next)
+{
+    if (!__atomic_compare_exchange_n(&k->turn, &turn, next | HISTAR_IS_CALLED, 0, __ATOMIC_ACQUIRE, __ATOMIC_RELAXED)) return 0;
+    __atomic_store_n(&k->caller, histar_thread(), __ATOMIC_RELAXED);
+    __atomic_store_n(&k->below, histar_stack(), __ATOMIC_RELAXED);
+    return 1;
+}
+/* The same where it is free: HISTAR_BUSY where another call has it. */
+__attribute__((always_inline)) static inline uint32_t histar_taken(histar *k)
+{
+    uint32_t turn = __atomic_load_n(&k->turn, __ATOMIC_RELAXED);
+    return !histar_how(turn) && histar_takes_turn(k, turn, turn) ? HISTAR_DONE : HISTAR_BUSY;
+}
+static inline uint32_t histar_turn_after(uint32_t turn) { return (turn | HISTAR_TURN) + 1; }
 static inline uint32_t histar_released(histar *k, uint32_t refusal)
 {
-    __atomic_clear(&k->is_busy, __ATOMIC_RELEASE);
+    __atomic_store_n(&k->turn, histar_turn_after(k->turn), __ATOMIC_RELEASE);
     return refusal;
+}
+static inline int histar_is_open(const histar *k)
+{
+    return __atomic_load_n(&k->open_at, __ATOMIC_RELAXED) == ((uintptr_t)k ^ (uintptr_t)*histar_process);
+}
+/* It was opened by a process of which this one is a child, or that is a child of this one. */
+static inline int histar_is_of_another_process(const histar *k)
+{
+    return __atomic_load_n(&k->open_at, __ATOMIC_RELAXED) && k->process != *histar_process;
+}
+static inline void histar_stands_open(histar *k)
+{
+    k->process = *histar_process;
+    __atomic_store_n(&k->open_at, (uintptr_t)k ^ (uintptr_t)k->process, __ATOMIC_RELAXED);
 }
 
 /* Whether readers of a seat are open, so that it stays as it is. */
@@ -382,49 +463,85 @@ static inline void histar_reads_no_more(histar *reader)
     reader->of = NULL;
 }
 
-/* Gives all memory back and wipes the kernel, which may be opened again. A kernel that is closed stays so. HISTAR_BUSY where
- * a call uses it, or it is a seat with a reader that is open: it is open then as before. */
-__attribute__((nonnull)) static inline uint32_t histar_close(histar *k)
+/* Takes a kernel that a call left in place of giving it back, to close it. A function that is given a text may be in the middle, or never came
+ * back: its call finds that the turn is over. A call that this thread is still in stands below the stack of who asks, but for a
+ * handler with a stack of its own: so one that does not was left by a jump. */
+static inline uint32_t histar_taken_to_close(histar *k, uintptr_t stack, int *is_left)
 {
-    if (!histar_is_open(k)) return HISTAR_DONE;
-    if (histar_taken(k)) return HISTAR_BUSY;
-    if (histar_is_open(k)) {
+    uint32_t turn = __atomic_load_n(&k->turn, __ATOMIC_ACQUIRE);
+    *is_left = histar_how(turn) == HISTAR_IS_CALLED;
+    if (*is_left && (__atomic_load_n(&k->caller, __ATOMIC_RELAXED) != histar_thread() || stack < __atomic_load_n(&k->below, __ATOMIC_RELAXED)
+                     || histar_is_on_signal_stack())) return HISTAR_BUSY;
+    return histar_takes_turn(k, turn, histar_turn_after(turn)) ? HISTAR_DONE : HISTAR_BUSY;
+}
+
+/* Gives back what a kernel, seat or reader has. Where a call was left in the middle, nobody knows what a kernel points to, and its blocks are
+ * given back one by one; those of a seat are not, since others may be at them. */
+static inline void histar_ends(histar *k, int is_left)
+{
+    if (k->of) histar_reads_no_more(k);
+    else if (is_left) histar_blocks_end(&k->blocks);
+    else if (k->is_seat) histar_seat_end(k->room);
+    else histar_end(k->room);
+}
+
+__attribute__((nonnull, noinline, unused)) static uint32_t histar_closes(histar *k, uintptr_t stack)
+{
+    int is_left = 0;
+    if (histar_is_of_another_process(k)) return HISTAR_UNAVAILABLE;
+    if (!histar_is_open(k) && !histar_how(__atomic_load_n(&k->turn, __ATOMIC_RELAXED))) return HISTAR_DONE;
+    if (histar_taken(k) && histar_taken_to_close(k, stack, &is_left)) return HISTAR_BUSY;
+    if (is_left || histar_is_open(k)) {
         if (histar_is_read(k)) return histar_released(k, HISTAR_BUSY);
-        if (k->of) histar_reads_no_more(k);
-        else if (k->is_seat) histar_seat_end(k->room);
-        else histar_end(k->room);
-        __atomic_store_n(&k->open_at, NULL, __ATOMIC_RELAXED);
+        histar_ends(k, is_left);
+        __atomic_store_n(&k->open_at, 0, __ATOMIC_RELAXED);
         histar_wipes(k->room, sizeof k->room);
         histar_wipes(&k->request, sizeof k->request);
         histar_wipes(&k->answer, sizeof k->answer);
+        histar_wipes(k->part, sizeof k->part);
+        histar_wipe_stack();
     }
     return histar_released(k, HISTAR_DONE);
 }
 
-/* The library is of this header's version, and a kernel has room for what it holds. */
-static inline uint32_t histar_suits(void)
+/* Gives all memory back and wipes the kernel, which may be opened again. A kernel that is closed stays so. HISTAR_BUSY where
+ * a call uses it, or it is a seat with a reader that is open: it is open then as before. A call that was left does not use it: by a jump, an
+ * exception or the end of its thread out of the function that a text goes to, or by a jump to the function that closes, or one that called
+ * it, out of anything. HISTAR_UNAVAILABLE in a child of fork. */
+__attribute__((nonnull, always_inline)) static inline uint32_t histar_close(histar *k) { return histar_closes(k, histar_stack()); }
+
+/* The library's layout suits this header's, and a kernel has room for what it holds. */
+static inline uint32_t histar_suits(size_t size)
 {
-    if (histar_version() != HISTAR_VERSION_NUMBER) return HISTAR_OTHER_VERSION;
-    return histar_size() > sizeof ((histar *)NULL)->room ? HISTAR_UNAVAILABLE : HISTAR_DONE;
+    uint32_t layout = histar_layout();
+    if (layout / 1000 != HISTAR_LAYOUT / 1000 || layout < HISTAR_LAYOUT) return HISTAR_OTHER_VERSION;
+    return size > sizeof ((histar *)NULL)->room ? HISTAR_UNAVAILABLE : HISTAR_DONE;
+}
+
+/* Takes one that is closed for an open. */
+static inline uint32_t histar_begins(histar *k)
+{
+    if (!histar_process_begins() || histar_is_of_another_process(k)) return HISTAR_UNAVAILABLE;
+    if (histar_taken(k)) return HISTAR_BUSY;
+    if (histar_is_open(k)) return histar_released(k, HISTAR_BUSY);
+    memset(&k->request, 0, sizeof k->request);
+    memset(&k->answer, 0, sizeof k->answer);
+    k->is_seat = k->takes_memory = k->is_text = 0;
+    k->blocks = k->of = NULL;
+    k->readers = 0;
+    return HISTAR_DONE;
 }
 
 /* A kernel that was booted into the room of one that is taken and closed: it is open, or ended again where there is none. */
 static inline uint32_t histar_booted(histar *k)
 {
-    uint32_t refusal;
-    memset(&k->request, 0, sizeof k->request);
-    memset(&k->answer, 0, sizeof k->answer);
-    k->is_seat = 0;
-    k->of = NULL;
-    k->readers = 0;
     /* A record of zeros asks for nothing: a kernel that is there says so. */
-    refusal = histar_call(k->room, &k->request, &k->answer);
-    if (refusal == HISTAR_BAD_BATCH) {
-        __atomic_store_n(&k->open_at, k, __ATOMIC_RELAXED);
-        return HISTAR_DONE;
-    }
-    histar_end(k->room);
-    return refusal;
+    uint32_t refusal = histar_call(k->room, &k->request, &k->answer);
+    if (refusal != HISTAR_BAD_BATCH) histar_end(k->room);
+    histar_blocks_of(NULL);
+    if (refusal != HISTAR_BAD_BATCH) return refusal;
+    histar_stands_open(k);
+    return HISTAR_DONE;
 }
 
 /* Opens a kernel with all limits: pages of 256 bytes, 8 to 1,024; the level of the device's label, 0 to 3; the first id
@@ -434,13 +551,14 @@ HISTAR_LOOKED_AT(1)
 static inline uint32_t histar_open_with(histar *k, uint64_t pages, uint64_t device_level, uint64_t next_id,
                                         uint64_t next_category)
 {
-    uint32_t refusal;
+    uint32_t refusal = histar_begins(k);
+    if (refusal) return refusal;
     if (pages > UINT32_MAX) pages = UINT32_MAX; /* no kernel has so many, either */
-    if (histar_taken(k)) return HISTAR_BUSY;
-    if (histar_is_open(k)) return histar_released(k, HISTAR_BUSY);
-    refusal = histar_suits();
-    if (!refusal) histar_boot((uint32_t)pages, histar_level_byte(device_level), next_id, next_category, k->room);
-    return histar_released(k, refusal ? refusal : histar_booted(k));
+    refusal = histar_suits(histar_size());
+    if (refusal) return histar_released(k, refusal);
+    histar_blocks_of(&k->blocks);
+    histar_boot((uint32_t)pages, histar_level_byte(device_level), next_id, next_category, k->room);
+    return histar_released(k, histar_booted(k));
 }
 
 /* Opens a kernel of so many pages of 256 bytes, 8 to 1,024, as a script does: the device's label is 1, the first id 4 and
@@ -458,13 +576,16 @@ static inline uint32_t histar_open(histar *k, uint64_t pages) { return histar_op
 HISTAR_LOOKED_AT(1, 2)
 static inline uint32_t histar_open_at(histar *k, const void *text, size_t len)
 {
-    uint32_t refusal;
-    if (histar_taken(k)) return HISTAR_BUSY;
-    if (histar_is_open(k)) return histar_released(k, HISTAR_BUSY);
-    refusal = histar_suits();
+    uint32_t refusal = histar_begins(k);
+    if (refusal) return refusal;
+    refusal = histar_suits(histar_size());
     if (!refusal && len > PTRDIFF_MAX) refusal = HISTAR_TEXT_FAULT; /* no text is so long */
-    if (!refusal) histar_boot_at(text, len, k->room);
-    return histar_released(k, refusal ? refusal : histar_booted(k));
+    if (refusal) return histar_released(k, refusal);
+    histar_blocks_of(&k->blocks);
+    histar_boot_at(text, len, k->room);
+    refusal = histar_booted(k);
+    histar_wipe_below(HISTAR_TEXT_STACK);
+    return histar_released(k, refusal);
 }
 
 /* ---- A kernel that threads share ---- */
@@ -472,17 +593,12 @@ static inline uint32_t histar_open_at(histar *k, const void *text, size_t len)
 /* A seat that was booted into the room of one that is taken and closed: it is open, or ended again where there is none. */
 static inline uint32_t histar_seat_booted(histar *seat, histar_note shared)
 {
-    uint32_t refusal;
-    memset(&seat->request, 0, sizeof seat->request);
-    memset(&seat->answer, 0, sizeof seat->answer);
     /* A record of zeros asks for nothing: a seat that is there says so. */
-    refusal = histar_seat_call(seat->room, &seat->request, &seat->answer);
+    uint32_t refusal = histar_seat_call(seat->room, &seat->request, &seat->answer);
     if (refusal == HISTAR_BAD_BATCH) {
         seat->is_seat = 1;
         seat->shared = shared;
-        seat->of = NULL;
-        seat->readers = 0;
-        __atomic_store_n(&seat->open_at, seat, __ATOMIC_RELAXED);
+        histar_stands_open(seat);
         return HISTAR_DONE;
     }
     histar_seat_end(seat->room);
@@ -511,12 +627,12 @@ static inline uint32_t histar_share_with(histar *seat, uint64_t pages, uint64_t 
 {
     struct timespec since;
     histar_note shared;
-    uint32_t refusal = HISTAR_UNAVAILABLE;
+    uint32_t refusal = histar_begins(seat);
+    if (refusal) return refusal;
     if (pages > UINT32_MAX) pages = UINT32_MAX; /* no kernel has so many, either */
-    if (histar_taken(seat)) return HISTAR_BUSY;
-    if (histar_is_open(seat)) return histar_released(seat, HISTAR_BUSY);
-    if (histar_version() != HISTAR_VERSION_NUMBER) return histar_released(seat, HISTAR_OTHER_VERSION);
-    if (histar_seat_size() <= sizeof seat->room && timespec_get(&since, TIME_UTC)) {
+    refusal = histar_suits(histar_seat_size());
+    if (!refusal && !timespec_get(&since, TIME_UTC)) refusal = HISTAR_UNAVAILABLE;
+    if (!refusal) {
         shared.at = (uint64_t)(uintptr_t)seat;
         shared.since = (uint64_t)since.tv_sec * 1000000000 + (uint64_t)since.tv_nsec;
         shared.calls = 0;
@@ -539,10 +655,11 @@ static inline uint32_t histar_share(histar *seat, uint64_t pages, uint64_t most)
 HISTAR_LOOKED_AT(1, 2)
 static inline uint32_t histar_seat_open(histar *seat, histar *from)
 {
-    uint32_t refusal = HISTAR_UNAVAILABLE;
-    if (histar_taken(seat)) return HISTAR_BUSY;
-    if (histar_is_open(seat)) return histar_released(seat, HISTAR_BUSY);
+    uint32_t refusal = histar_begins(seat);
+    if (refusal) return refusal;
+    if (histar_is_of_another_process(from)) return histar_released(seat, HISTAR_UNAVAILABLE);
     if (histar_taken(from)) return histar_released(seat, HISTAR_BUSY);
+    refusal = HISTAR_UNAVAILABLE;
     if (histar_is_open(from) && from->is_seat) {
         histar_seat_beside(from->room, seat->room);
         refusal = histar_seat_booted(seat, from->shared);
@@ -559,23 +676,20 @@ static inline uint32_t histar_seat_open(histar *seat, histar *from)
 HISTAR_LOOKED_AT(1, 2)
 static inline uint32_t histar_reader_open(histar *reader, histar *seat)
 {
-    uint32_t refusal = HISTAR_UNAVAILABLE;
-    if (histar_taken(reader)) return HISTAR_BUSY;
-    if (histar_is_open(reader)) return histar_released(reader, HISTAR_BUSY);
+    uint32_t refusal = histar_begins(reader);
+    if (refusal) return refusal;
+    if (histar_is_of_another_process(seat)) return histar_released(reader, HISTAR_UNAVAILABLE);
     if (histar_taken(seat)) return histar_released(reader, HISTAR_BUSY);
+    refusal = HISTAR_UNAVAILABLE;
     if (histar_is_open(seat) && seat->is_seat && histar_reader_size() <= sizeof reader->room) {
-        memset(&reader->request, 0, sizeof reader->request);
-        memset(&reader->answer, 0, sizeof reader->answer);
         histar_reader_of(seat->room, reader->room);
         /* A record of zeros asks for nothing: a reader that is there says so. */
         refusal = histar_reader_call(reader->room, &reader->request, &reader->answer);
         if (refusal == HISTAR_BAD_BATCH) {
             __atomic_add_fetch(&seat->readers, 1, __ATOMIC_RELAXED);
-            reader->is_seat = 0;
             reader->shared = seat->shared;
             reader->of = seat;
-            reader->readers = 0;
-            __atomic_store_n(&reader->open_at, reader, __ATOMIC_RELAXED);
+            histar_stands_open(reader);
             refusal = HISTAR_DONE;
         } else histar_reader_end(reader->room);
     }
@@ -585,11 +699,65 @@ static inline uint32_t histar_reader_open(histar *reader, histar *seat)
 
 /* ---- How the functions below fill a record and read an answer ---- */
 
+static inline uint32_t histar_serves_with_memory(histar *k)
+{
+    uint32_t refusal;
+    histar_blocks_of(&k->blocks);
+    refusal = histar_call(k->room, &k->request, &k->answer);
+    histar_blocks_of(NULL);
+    return refusal;
+}
+
+/* Does what the record asks for. A seat asks again while another adds its call, which takes a few nanoseconds: at once, then after others had a
+ * turn, then after a millisecond each. After a fifth of a second it is refused: the other's thread may be stopped. */
+static inline uint32_t histar_serves(histar *k)
+{
+    uint32_t refusal, tries;
+    if (k->of) return histar_reader_call(k->room, &k->request, &k->answer);
+    if (k->takes_memory) return histar_serves_with_memory(k);
+    if (!k->is_seat) return histar_call(k->room, &k->request, &k->answer);
+    for (tries = 0; (refusal = histar_seat_call(k->room, &k->request, &k->answer)) == HISTAR_BUSY && tries < 400; tries++)
+        if (tries >= 200) histar_waits();
+        else if (tries >= 100) sched_yield();
+    return refusal;
+}
+
+/* Has the library make the piece of a text that has this number, and tells how long it is: 0 past the last piece. */
+static inline uint32_t histar_cuts(histar *k, uint32_t call, uint64_t at, size_t *len)
+{
+    uint32_t refusal;
+    k->request.call = call;
+    k->request.numbers[0] = at;
+    refusal = histar_serves(k);
+    *len = refusal ? 0 : (size_t)k->answer.numbers[0];
+    if (!refusal) k->is_text = *len != 0;
+    return refusal;
+}
+/* Leaves nothing of a text in the library or here. */
+static inline void histar_drops_text(histar *k)
+{
+    size_t none;
+    if (k->is_text) (void)histar_cuts(k, HISTAR_CALL_DUMP, UINT64_MAX, &none);
+    histar_wipes(k->part, sizeof k->part);
+}
+
+/* Takes a kernel for a call where this thread left the function that was given a text by a jump, to what stands above it on the stack: what that
+ * function calls itself stands below. */
+__attribute__((cold, noinline, unused)) static uint32_t histar_taken_again(histar *k, uintptr_t stack)
+{
+    uint32_t turn = __atomic_load_n(&k->turn, __ATOMIC_ACQUIRE);
+    if (histar_how(turn) != HISTAR_IS_GIVING || __atomic_load_n(&k->caller, __ATOMIC_RELAXED) != histar_thread()
+        || stack <= __atomic_load_n(&k->below, __ATOMIC_RELAXED)) return HISTAR_BUSY;
+    if (!histar_takes_turn(k, turn, histar_turn_after(turn))) return HISTAR_BUSY;
+    histar_drops_text(k);
+    return HISTAR_DONE;
+}
+
 /* Takes the kernel for a call, and fills what each call has. */
 static inline uint32_t histar_asks(histar *k, uint32_t call, histar_object thread, histar_entry entry)
 {
     if (!histar_is_open(k)) return HISTAR_UNAVAILABLE;
-    if (histar_taken(k)) return HISTAR_BUSY;
+    if (histar_taken(k) && histar_taken_again(k, histar_stack())) return HISTAR_BUSY;
     if (!histar_is_open(k)) return histar_released(k, HISTAR_UNAVAILABLE); /* it was closed in between */
     if (histar_is_read(k)) return histar_released(k, HISTAR_BUSY);
     k->request.call = call;
@@ -598,54 +766,76 @@ static inline uint32_t histar_asks(histar *k, uint32_t call, histar_object threa
     k->request.object = entry.object.id;
     return HISTAR_DONE;
 }
-/* A seat asks again while another adds its call, which takes a few nanoseconds: at once, then after others had a turn, then after a
- * millisecond each. After a fifth of a second it is refused: the other's thread may be stopped. */
-static inline uint32_t histar_serves(histar *k)
+
+/* Wipes what a call asked with, and what it was answered: bytes, numbers, and the labels that it has. */
+static inline uint32_t histar_head(const histar_label *label)
 {
-    uint32_t refusal, tries;
-    if (k->of) return histar_reader_call(k->room, &k->request, &k->answer);
-    if (!k->is_seat) return histar_call(k->room, &k->request, &k->answer);
-    for (tries = 0; (refusal = histar_seat_call(k->room, &k->request, &k->answer)) == HISTAR_BUSY && tries < 400; tries++)
-        if (tries >= 200) poll(NULL, 0, 1);
-        else if (tries >= 100) sched_yield();
-    return refusal;
+    uint16_t head; /* the default level, and how many pairs there are: 0 of a label that was wiped */
+    memcpy(&head, label, sizeof head);
+    return head;
+}
+static inline void histar_wipes_label(histar_label *label)
+{
+    volatile histar_category *pair = label->categories, *end = pair + (label->count < 24 ? label->count : 24);
+    for (; pair < end; pair++) pair->number = 0;
+    histar_wipes(label, offsetof(histar_label, categories));
+}
+__attribute__((noinline, unused)) static void histar_wipes_labels(histar_request *request)
+{
+    histar_wipes_label(&request->label);
+    histar_wipes_label(&request->clearance);
+    histar_wipes_label(&request->verify);
+}
+__attribute__((noinline, unused)) static void histar_wipes_call(histar *k)
+{
+    histar_wipes(k->request.numbers, sizeof k->request.numbers);
+    histar_wipes(k->request.bytes, sizeof k->request.bytes);
+    histar_wipes(k->answer.numbers, sizeof(uint64_t));
+    histar_wipes(k->answer.bytes, sizeof k->answer.bytes);
+    if (histar_head(&k->request.label) | histar_head(&k->request.clearance) | histar_head(&k->request.verify)) histar_wipes_labels(&k->request);
+}
+/* The same, and all that was answered. */
+__attribute__((noinline, unused)) static void histar_wipes_records(histar *k)
+{
+    histar_wipes(&k->answer, sizeof k->answer);
+    histar_wipes_call(k);
 }
 
 /* The ends of a call: of one that answers nothing but its refusal, of one whose answer was read, of one that answers a number, of
  * one that made something, of one that gives bytes, and of one that takes some, of which 64 may be written. */
-static inline uint32_t histar_done(histar *k) { return histar_released(k, histar_serves(k)); }
+static inline uint32_t histar_over(histar *k, uint32_t refusal)
+{
+    histar_wipes_call(k);
+    return histar_released(k, refusal);
+}
+static inline uint32_t histar_done(histar *k) { return histar_over(k, histar_serves(k)); }
 static inline uint32_t histar_told(histar *k, uint32_t refusal)
 {
-    histar_wipes(&k->answer, sizeof k->answer);
+    histar_wipes_records(k);
     return histar_released(k, refusal);
 }
 static inline uint32_t histar_counted(histar *k, uint64_t *number)
 {
     uint32_t refusal = histar_serves(k);
     if (!refusal && number) *number = k->answer.numbers[0];
-    histar_wipes(k->answer.numbers, sizeof(uint64_t));
-    return histar_released(k, refusal);
+    return histar_over(k, refusal);
 }
 static inline uint32_t histar_made(histar *k, histar_object *made) { return histar_counted(k, made ? &made->id : NULL); }
 static inline uint32_t histar_gives(histar *k, const void *bytes, uint64_t len)
 {
-    uint32_t refusal;
-    if (len > 64) return histar_released(k, HISTAR_BAD_BATCH);
+    if (len > 64) return histar_over(k, HISTAR_BAD_BATCH);
     k->request.len = (uint32_t)len;
     if (len) memcpy(k->request.bytes, bytes, len);
-    refusal = histar_serves(k);
-    histar_wipes(k->request.bytes, sizeof k->request.bytes);
-    return histar_released(k, refusal);
+    return histar_done(k);
 }
 static inline uint32_t histar_takes(histar *k, void *bytes, uint64_t size, size_t *len)
 {
     uint32_t refusal;
-    if (size < 64) return histar_released(k, HISTAR_BAD_BATCH);
+    if (size < 64) return histar_over(k, HISTAR_BAD_BATCH);
     refusal = histar_serves(k);
     if (!refusal) memcpy(bytes, k->answer.bytes, k->answer.len);
     if (!refusal && len) *len = k->answer.len;
-    histar_wipes(k->answer.bytes, sizeof k->answer.bytes);
-    return histar_released(k, refusal);
+    return histar_over(k, refusal);
 }
 
 /* ---- What calls answer ---- */
@@ -1136,6 +1326,23 @@ static inline uint32_t histar_load(histar *k, histar_object thread, uint64_t add
 }
 /* (the end of what is made) */
 
+/* ---- Calls as records ---- */
+
+/* Makes the call of a record, for what keeps calls as data: it has the number of a write or read call, 1 to 34, and the fields that the
+ * function of the call fills, but for the thread. The answer is written where it is not refused; fields that it does not have are 0. */
+HISTAR_LOOKED_AT(1, 3, 4)
+static inline uint32_t histar_make(histar *k, histar_object thread, const histar_request *call, histar_answer *answer)
+{
+    uint32_t refusal = histar_asks(k, call->call, thread, HISTAR_NOWHERE);
+    if (refusal) return refusal;
+    k->request = *call;
+    k->request.thread = thread.id;
+    refusal = call->call <= HISTAR_CALL_LOAD ? histar_serves(k) : (uint32_t)HISTAR_BAD_BATCH;
+    if (!refusal) *answer = k->answer;
+    k->request.len = 0;
+    return histar_told(k, refusal);
+}
+
 /* ---- Notes between seats of a shared kernel ---- */
 
 /* A note of what the seat has seen, for another seat to learn. HISTAR_BAD_BATCH of a kernel that is no seat. */
@@ -1205,18 +1412,26 @@ static inline uint32_t histar_batch(histar *seat, histar_object thread, const hi
 /* What a log keeps: write calls, or reads too. */
 enum { HISTAR_LOG_WRITES = 0, HISTAR_LOG_ALL = 1 };
 
+/* Asks for a log. From here on calls take memory. */
+static inline uint32_t histar_logs(histar *k, uint32_t call, uint64_t most, uint64_t keeps)
+{
+    uint32_t refusal = histar_asks(k, call, HISTAR_NOTHING, HISTAR_NOWHERE);
+    if (refusal) return refusal;
+    if (keeps > HISTAR_LOG_ALL) return histar_over(k, HISTAR_BAD_BATCH);
+    k->request.numbers[0] = most;
+    k->request.numbers[1] = keeps;
+    k->takes_memory = !k->is_seat && !k->of;
+    return histar_done(k);
+}
+
 /* Begins the log, of `most` calls at most, before the first write call. From here on each call that is kept takes memory. One past the bound
  * is refused HISTAR_LOG_FULL, and HISTAR_MEMORY where there is no memory for it: it is not made and not kept. Where write calls alone are
  * kept, reads are answered as ever. histar_log_cut makes room; UINT64_MAX is no bound. HISTAR_BAD_BATCH where a write call was made
- * already. */
+ * already, and where `keeps` is neither. */
 HISTAR_LOOKED_AT(1)
 static inline uint32_t histar_log_on(histar *k, uint64_t most, uint64_t keeps)
 {
-    uint32_t refusal = histar_asks(k, HISTAR_CALL_LOG_ON, HISTAR_NOTHING, HISTAR_NOWHERE);
-    if (refusal) return refusal;
-    k->request.numbers[0] = most;
-    k->request.numbers[1] = keeps;
-    return histar_done(k);
+    return histar_logs(k, HISTAR_CALL_LOG_ON, most, keeps);
 }
 
 /* Begins the log anew at the kernel as it stands, of `most` calls at most, so that the memory of its calls is given back: its dump has
@@ -1225,32 +1440,59 @@ static inline uint32_t histar_log_on(histar *k, uint64_t most, uint64_t keeps)
 HISTAR_LOOKED_AT(1)
 static inline uint32_t histar_log_cut(histar *k, uint64_t most, uint64_t keeps)
 {
-    uint32_t refusal = histar_asks(k, HISTAR_CALL_LOG_CUT, HISTAR_NOTHING, HISTAR_NOWHERE);
-    if (refusal) return refusal;
-    k->request.numbers[0] = most;
-    k->request.numbers[1] = keeps;
-    return histar_done(k);
+    return histar_logs(k, HISTAR_CALL_LOG_CUT, most, keeps);
 }
 
 /* Where a text goes: a function of the caller's, which is given the text in parts of 1 to 4,096 bytes, one after another, each of them for
- * the length of the call. It answers 0 to go on. Any other answer ends the text. */
+ * the length of the call. It answers 0 to go on. Any other answer ends the text. It should return. Where it does not, this call alone is lost:
+ * an exception and the end of its thread give the kernel back, in C where it is compiled with -fexceptions. After a jump, a call by what
+ * stands above the text's call on the stack goes on. Any other is refused HISTAR_BUSY, until a close. */
 typedef uint32_t (*histar_put)(void *context, const void *part, size_t len);
 
-/* Has the library make the piece of a text that has this number, and tells how long it is: 0 past the last piece. */
-static inline uint32_t histar_cuts(histar *k, uint32_t call, uint64_t at, size_t *len)
+/* Room that a text is written into, and how much of it is left. */
+typedef struct {
+    unsigned char *at;
+    size_t left;
+} histar_space;
+static inline uint32_t histar_fills(void *space, const void *part, size_t len)
 {
-    uint32_t refusal;
-    k->request.call = call;
-    k->request.numbers[0] = at;
-    refusal = histar_serves(k);
-    *len = refusal ? 0 : (size_t)k->answer.numbers[0];
+    histar_space *it = (histar_space *)space;
+    if (len > it->left) return HISTAR_BOUNDS;
+    memcpy(it->at, part, len);
+    it->at += len;
+    it->left -= len;
+    return HISTAR_DONE;
+}
+
+/* A text that is given: of which kernel in which turn, and where it goes. */
+typedef struct {
+    histar *k;
+    uint32_t turn, call;
+    histar_put put;
+    void *context;
+} histar_stream;
+
+/* Gives a part. The kernel is not this call's any more where it was closed meanwhile, or taken after a jump. */
+__attribute__((noinline, unused)) static uint32_t histar_gives_part(histar_stream *it, size_t len)
+{
+    histar *k = it->k;
+    const uintptr_t below = k->below;
+    uint32_t refusal, turn = it->turn | HISTAR_IS_GIVING;
+    __atomic_store_n(&k->below, histar_stack(), __ATOMIC_RELAXED);
+    __atomic_store_n(&k->turn, turn, __ATOMIC_RELEASE);
+    refusal = it->put(it->context, k->part, len);
+    if (!histar_takes_turn(k, turn, it->turn)) {
+        it->k = NULL;
+        return HISTAR_UNAVAILABLE;
+    }
+    __atomic_store_n(&k->below, below, __ATOMIC_RELAXED);
     return refusal;
 }
 
 /* Gives the piece that the library made last, in parts. */
-static inline uint32_t histar_puts(histar *k, size_t len, histar_put put, void *context)
+static inline uint32_t histar_puts(histar_stream *it, size_t len)
 {
-    unsigned char part[4096];
+    histar *k = it->k;
     size_t at, some, filled = 0;
     uint32_t refusal = HISTAR_DONE;
     k->request.call = HISTAR_CALL_DUMP_TEXT;
@@ -1258,35 +1500,58 @@ static inline uint32_t histar_puts(histar *k, size_t len, histar_put put, void *
         some = len - at < 64 ? len - at : 64;
         k->request.numbers[0] = at;
         refusal = histar_serves(k);
-        memcpy(part + filled, k->answer.bytes, some);
+        memcpy(k->part + filled, k->answer.bytes, some);
         filled += some;
-        if (refusal || (filled < sizeof part && at + some < len)) continue;
-        refusal = put(context, part, filled);
+        if (refusal || (filled < sizeof k->part && at + some < len)) continue;
+        refusal = it->put == histar_fills ? histar_fills(it->context, k->part, filled) : histar_gives_part(it, filled);
         filled = 0;
     }
-    histar_wipes(part, sizeof part);
     return refusal;
 }
 
-/* Gives all pieces of a text, where `put` is one, and tells how long it is. A text that ends early leaves nothing in the library. */
-static inline uint32_t histar_streams(histar *k, uint32_t call, histar_put put, void *context, size_t *len)
+/* Gives all pieces of a text, where it goes anywhere, and tells how long it is. */
+static inline uint32_t histar_streams(histar_stream *it, size_t *len)
 {
     uint64_t at = 0;
-    size_t some = 1, none;
+    size_t some = 1;
     uint32_t refusal = HISTAR_DONE;
     for (*len = 0; !refusal && some; *len += some) {
-        refusal = histar_cuts(k, call, at++, &some);
-        if (!refusal && put) refusal = histar_puts(k, some, put, context);
+        refusal = histar_cuts(it->k, it->call, at++, &some);
+        if (!refusal && some && it->put) refusal = histar_puts(it, some);
     }
-    if (refusal) (void)histar_cuts(k, call, UINT64_MAX, &none);
     return refusal;
 }
+
+/* A text of a kernel that is taken for it, and its end: also that by an exception. */
+static inline histar_stream histar_text(histar *k, uint32_t call, histar_put put, void *context)
+{
+    histar_stream it;
+    it.k = k;
+    it.turn = k->turn & ~(uint32_t)HISTAR_TURN;
+    it.call = call;
+    it.put = put;
+    it.context = context;
+    k->takes_memory = !k->is_seat && !k->of;
+    return it;
+}
+static inline void histar_text_ends(histar_stream *it)
+{
+    histar *k = it->k;
+    if (!k) return;
+    if (__atomic_load_n(&k->turn, __ATOMIC_RELAXED) != (it->turn | HISTAR_IS_CALLED) && !histar_takes_turn(k, it->turn | HISTAR_IS_GIVING, it->turn)) return;
+    histar_drops_text(k);
+    (void)histar_told(k, HISTAR_DONE);
+    histar_wipe_below(HISTAR_TEXT_STACK);
+}
+#define HISTAR_ENDS __attribute__((cleanup(histar_text_ends)))
+
 static inline uint32_t histar_streamed(histar *k, uint32_t call, histar_put put, void *context)
 {
     size_t len;
     uint32_t refusal = histar_asks(k, call, HISTAR_NOTHING, HISTAR_NOWHERE);
     if (refusal) return refusal;
-    return histar_told(k, histar_streams(k, call, put, context, &len));
+    HISTAR_ENDS histar_stream it = histar_text(k, call, put, context);
+    return histar_streams(&it, &len);
 }
 
 /* Gives the text of the log's dump to `put`, so that it stands nowhere whole: beside the log the library takes memory for up to 64 events
@@ -1312,10 +1577,11 @@ static inline uint32_t histar_dump_since(histar *older, histar_note note, histar
     uint32_t refusal = histar_asks(older, HISTAR_CALL_DUMP_SINCE, HISTAR_NOTHING, HISTAR_NOWHERE);
     if (refusal) return refusal;
     if (note.at != older->shared.at || note.since != older->shared.since) return histar_released(older, HISTAR_OTHER_LIST);
+    HISTAR_ENDS histar_stream it = histar_text(older, HISTAR_CALL_DUMP, put, context);
     older->request.numbers[0] = note.calls;
+    older->is_text = 1;
     refusal = histar_serves(older);
-    if (!refusal) refusal = histar_streams(older, HISTAR_CALL_DUMP, put, context, &len);
-    return histar_told(older, refusal);
+    return refusal ? refusal : histar_streams(&it, &len);
 }
 
 /* Gives the text of a checkpoint to `put`, as histar_dump_to gives a dump's: the kernel's limits and state, with all that segments hold, so
@@ -1327,21 +1593,6 @@ static inline uint32_t histar_checkpoint_to(histar *k, histar_put put, void *con
     return histar_streamed(k, HISTAR_CALL_CHECKPOINT, put, context);
 }
 
-/* Room that a text is written into, and how much of it is left. */
-typedef struct {
-    unsigned char *at;
-    size_t left;
-} histar_space;
-static inline uint32_t histar_fills(void *space, const void *part, size_t len)
-{
-    histar_space *it = (histar_space *)space;
-    if (len > it->left) return HISTAR_BOUNDS;
-    memcpy(it->at, part, len);
-    it->at += len;
-    it->left -= len;
-    return HISTAR_DONE;
-}
-
 /* Writes a text into room of the caller's: first it is asked how long it is. */
 static inline uint32_t histar_writes(histar *k, uint32_t call, void *text, size_t size, size_t *needed)
 {
@@ -1351,11 +1602,12 @@ static inline uint32_t histar_writes(histar *k, uint32_t call, void *text, size_
     if (refusal) return refusal;
     space.at = (unsigned char *)text;
     space.left = size;
-    refusal = histar_streams(k, call, NULL, NULL, &len);
+    HISTAR_ENDS histar_stream it = histar_text(k, call, NULL, &space);
+    refusal = histar_streams(&it, &len);
     if (!refusal) *needed = len;
     if (!refusal && size < len) refusal = HISTAR_BOUNDS;
-    if (!refusal) refusal = histar_streams(k, call, histar_fills, &space, &len);
-    return histar_told(k, refusal);
+    it.put = histar_fills;
+    return refusal ? refusal : histar_streams(&it, &len);
 }
 
 /* Writes the text that histar_dump_to gives, and its length in bytes to *needed. HISTAR_BOUNDS where it is

@@ -32,9 +32,19 @@ impl AsRef<[u8]> for Bytes {
     }
 }
 
+/// How many bytes there are: what is printed of them, since they may be secret.
+pub(crate) struct Length(pub usize);
+
+impl fmt::Debug for Length {
+    fn fmt(&self, f: &mut fmt::Formatter<'_>) -> fmt::Result {
+        write!(f, "{} bytes", self.0)
+    }
+}
+
+/// It tells how many there are, and none of them.
 impl fmt::Debug for Bytes {
     fn fmt(&self, f: &mut fmt::Formatter<'_>) -> fmt::Result {
-        self[..].fmt(f)
+        Length(self.len()).fmt(f)
     }
 }
 

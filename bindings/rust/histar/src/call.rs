@@ -1,9 +1,11 @@
 //! What a thread asks of a kernel.
+use crate::bytes::Length;
 use crate::{Entry, Kinds, Label, Mapping, Object};
 use std::borrow::Cow;
+use std::fmt;
 
 /// A call. docs/CALLS.md has the rule and the refusals of each. Labels and bytes are the caller's, or its own.
-#[derive(Clone, PartialEq, Eq, Debug)]
+#[derive(Clone, PartialEq, Eq)]
 pub enum Call<'a> {
     // Made from bindings/calls.toml:
     /// A new category, which the thread owns: star in its label, 3 in its clearance.
@@ -376,5 +378,78 @@ impl Call<'_> {
                 | Call::Load { .. }
         )
         // (the end of what is made)
+    }
+}
+
+/// Prints a call with its fields.
+macro_rules! shown {
+    ($f:ident, $name:literal $(, $field:ident)*) => {
+        $f.debug_struct($name)$(.field(stringify!($field), $field))*.finish()
+    };
+}
+
+/// It tells how many bytes there are, and none of them.
+impl fmt::Debug for Call<'_> {
+    fn fmt(&self, f: &mut fmt::Formatter<'_>) -> fmt::Result {
+        match self {
+            // Made from bindings/calls.toml:
+            Call::CatCreate => shown!(f, "CatCreate"),
+            Call::SelfSetLabel { label } => shown!(f, "SelfSetLabel", label),
+            Call::SelfSetClearance { clearance } => shown!(f, "SelfSetClearance", clearance),
+            Call::SelfSetAs { space } => shown!(f, "SelfSetAs", space),
+            Call::ContainerCreate { container, label, quota, avoid } => {
+                shown!(f, "ContainerCreate", container, label, quota, avoid)
+            }
+            Call::SegmentCreate { container, label, quota, pages } => {
+                shown!(f, "SegmentCreate", container, label, quota, pages)
+            }
+            Call::SegmentCopy { container, label, quota, source } => {
+                shown!(f, "SegmentCopy", container, label, quota, source)
+            }
+            Call::AsCreate { container, label, quota } => shown!(f, "AsCreate", container, label, quota),
+            Call::ThreadCreate { container, label, quota, clearance, entry_point } => {
+                shown!(f, "ThreadCreate", container, label, quota, clearance, entry_point)
+            }
+            Call::GateCreate(gate) => f.debug_tuple("GateCreate").field(gate).finish(),
+            Call::Link { target, entry } => shown!(f, "Link", target, entry),
+            Call::Unref { entry } => shown!(f, "Unref", entry),
+            Call::QuotaMove { entry, change } => shown!(f, "QuotaMove", entry, change),
+            Call::SetFixed { entry } => shown!(f, "SetFixed", entry),
+            Call::SetImmutable { entry } => shown!(f, "SetImmutable", entry),
+            Call::MetaSet { entry, bytes } => {
+                let bytes = &Length(bytes.len());
+                shown!(f, "MetaSet", entry, bytes)
+            }
+            Call::SegmentResize { entry, pages } => shown!(f, "SegmentResize", entry, pages),
+            Call::SegmentWrite { entry, offset, bytes } => {
+                let bytes = &Length(bytes.len());
+                shown!(f, "SegmentWrite", entry, offset, bytes)
+            }
+            Call::AsMap { space, slot, mapping } => shown!(f, "AsMap", space, slot, mapping),
+            Call::AsUnmap { space, slot } => shown!(f, "AsUnmap", space, slot),
+            Call::Store { address, bytes } => {
+                let bytes = &Length(bytes.len());
+                shown!(f, "Store", address, bytes)
+            }
+            Call::GateEnter { gate, label, clearance, verify } => {
+                shown!(f, "GateEnter", gate, label, clearance, verify)
+            }
+            Call::DevSend { entry, bytes } => {
+                let bytes = &Length(bytes.len());
+                shown!(f, "DevSend", entry, bytes)
+            }
+            Call::DevRecv { entry } => shown!(f, "DevRecv", entry),
+            Call::SelfGet => shown!(f, "SelfGet"),
+            Call::ObjLabel { entry } => shown!(f, "ObjLabel", entry),
+            Call::ObjQuota { entry } => shown!(f, "ObjQuota", entry),
+            Call::ContainerList { container, from } => shown!(f, "ContainerList", container, from),
+            Call::ContainerParent { container } => shown!(f, "ContainerParent", container),
+            Call::SegmentLen { entry } => shown!(f, "SegmentLen", entry),
+            Call::SegmentRead { entry, offset, count } => shown!(f, "SegmentRead", entry, offset, count),
+            Call::MetaGet { entry } => shown!(f, "MetaGet", entry),
+            Call::AsGet { space, slot } => shown!(f, "AsGet", space, slot),
+            Call::Load { address, count } => shown!(f, "Load", address, count),
+            // (the end of what is made)
+        }
     }
 }

@@ -47,6 +47,6 @@ pub use label::{Label, Level, ParseLabelError};
 pub use log::Keep;
 pub use refusal::{NoRefusal, Refusal, Refused};
 pub use reply::{Entered, Listed, Own, Quota, Reply};
-pub use session::Session;
+pub use session::{ObjectsIn, Session, StoredSession};
 pub use shared::{Log, Note, Reader, Seat, View};
 pub use words::{Kinds, Limits, Mapping, Rights};

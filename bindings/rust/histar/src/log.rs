@@ -1,5 +1,5 @@
 //! The log of a kernel's calls, and its checkpoints.
-use crate::raw::{Raw, Taken};
+use crate::raw::{wipe_below, wipe_text, Raw, Taken, TEXT_STACK};
 use crate::{Entry, Kernel, Refused};
 use std::io;
 
@@ -171,28 +171,29 @@ impl Kernel {
         self.pieces(DUMP, |piece| out.write_all(piece))
     }
 
-    /// Has the library make a text, and gives each piece of it, of which the one past the last is empty. No call comes between them.
+    /// Has the library make a text, and gives each part of it, of which none is large. No call comes between them.
     fn pieces<E: From<Refused>>(&self, part: u32, mut put: impl FnMut(&[u8]) -> Result<(), E>) -> Result<(), E> {
-        let mut taken = self.raw.take(|request| request.put(part, &Entry::NONE, []))?;
-        let mut text = Vec::new();
+        let taken = self.raw.take(|request| request.put(part, &Entry::NONE, []))?;
+        let mut text = Text { taken, part, is_over: false, bytes: Vec::with_capacity(PART) };
         for number in 0.. {
-            let put = match piece(&mut taken, part, number, &mut text) {
-                Ok(()) if text.is_empty() => break,
-                Ok(()) => put(&text),
-                Err(refused) => Err(refused.into()),
-            };
-            if put.is_err() {
-                // (past the last piece, so that the library keeps none)
-                let _ = piece(&mut taken, part, u64::MAX, &mut text);
-                return put;
+            let len = text.cut(number)?;
+            if len == 0 {
+                text.is_over = true;
+                break;
             }
+            text.give(len, &mut put)?;
         }
         Ok(())
     }
 
-    /// A text that the library makes.
+    /// A text that the library makes, of which no other copy is left: how long it is is asked first.
     fn text(&self, part: u32) -> Result<String, Refused> {
-        let mut text = Vec::new();
+        let mut len = 0;
+        self.pieces(part, |piece| {
+            len += piece.len();
+            Ok::<(), Refused>(())
+        })?;
+        let mut text = Vec::with_capacity(len);
         self.pieces(part, |piece| {
             text.extend_from_slice(piece);
             Ok::<(), Refused>(())
@@ -206,14 +207,52 @@ const DUMP: u32 = 41;
 const CHECKPOINT: u32 = 48;
 const BYTES: u32 = 42;
 
-/// A piece of a text that the library makes.
-fn piece(taken: &mut Taken<'_>, part: u32, number: u64, text: &mut Vec<u8>) -> Result<(), Refused> {
-    text.clear();
-    let len = taken.ask(|request| request.put(part, &Entry::NONE, [number]), |answer| answer.numbers[0])? as usize;
-    while text.len() < len {
-        let from = text.len() as u64;
-        taken
-            .ask(|request| request.put(BYTES, &Entry::NONE, [from]), |answer| text.extend_from_slice(answer.data()))?;
+/// How much of a text is given at once.
+const PART: usize = 4096;
+
+/// A text that the library makes piece by piece, with the part that is given. Where it ends early, as by a panic of what it goes to, the library
+/// keeps none of it.
+struct Text<'a> {
+    taken: Taken<'a>,
+    part: u32,
+    is_over: bool,
+    bytes: Vec<u8>,
+}
+
+impl Text<'_> {
+    /// Makes a piece. How long it is: 0 past the last.
+    fn cut(&mut self, number: u64) -> Result<usize, Refused> {
+        let len =
+            self.taken.ask(|request| request.put(self.part, &Entry::NONE, [number]), |answer| answer.numbers[0])?;
+        Ok(len as usize)
     }
-    Ok(())
+
+    /// Gives the piece that was made last, in parts.
+    fn give<E: From<Refused>>(&mut self, len: usize, put: &mut impl FnMut(&[u8]) -> Result<(), E>) -> Result<(), E> {
+        let mut from = 0;
+        while from < len {
+            let bytes = &mut self.bytes;
+            self.taken.ask(
+                |request| request.put(BYTES, &Entry::NONE, [from as u64]),
+                |answer| bytes.extend_from_slice(answer.data()),
+            )?;
+            from += 64;
+            if from >= len || self.bytes.len() + 64 > PART {
+                put(&self.bytes)?;
+                self.bytes.clear();
+            }
+        }
+        Ok(())
+    }
+}
+
+impl Drop for Text<'_> {
+    fn drop(&mut self) {
+        if !self.is_over {
+            let _ = self.cut(u64::MAX);
+        }
+        self.bytes.resize(PART, 0);
+        wipe_text(&mut self.bytes);
+        wipe_below(TEXT_STACK);
+    }
 }

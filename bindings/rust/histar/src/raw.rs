@@ -4,6 +4,8 @@ use crate::{Limits, Refusal, Refused};
 use std::cell::{RefCell, RefMut, UnsafeCell};
 use std::marker::PhantomData;
 use std::mem::{align_of, size_of};
+use std::sync::atomic::{AtomicU32, Ordering};
+use std::sync::Arc;
 use std::time::Duration;
 
 /// A label in a record.
@@ -55,6 +57,14 @@ const _: () = assert!(align_of::<Request>() == 8 && align_of::<Answer>() == 8);
 
 impl LabelRecord {
     pub const ZEROS: LabelRecord = LabelRecord { default_level: 0, count: 0, levels: [0; 24], categories: [0; 24] };
+
+    /// Wipes a label that is not all zeros already.
+    fn wipe(&mut self) {
+        if self.default_level != 0 || self.count != 0 {
+            // SAFETY: a reference is a place that may be written.
+            unsafe { std::ptr::write_volatile(self, LabelRecord::ZEROS) }
+        }
+    }
 }
 
 impl Request {
@@ -119,28 +129,23 @@ extern "C" {
     fn histar_reader_call(reader: *mut Room, request: *const Request, answer: *mut Answer) -> u32;
     fn histar_reader_end(reader: *mut Room);
     fn histar_size() -> usize;
-    fn histar_version() -> u32;
+    fn histar_layout() -> u32;
+    static histar_process: *const u64;
+    fn histar_process_begins() -> u64;
+    fn histar_wipe_below(depth: usize);
     fn histar_boot(pages: u32, device_level: u8, next_id: u64, next_category: u64, room: *mut Room);
     fn histar_boot_at(text: *const u8, len: usize, room: *mut Room);
     fn histar_call(room: *mut Room, request: *const Request, answer: *mut Answer) -> u32;
     fn histar_end(room: *mut Room);
 }
 
-/// A number of this crate's version.
-const fn number(digits: &str) -> u32 {
-    let digits = digits.as_bytes();
-    let (mut place, mut value) = (0, 0);
-    while place < digits.len() {
-        value = 10 * value + (digits[place] - b'0') as u32;
-        place += 1;
-    }
-    value
-}
+/// The layout of these records, as `HISTAR_LAYOUT` has it.
+const LAYOUT: u32 = 1001;
 
-/// This crate's version, as the library tells its own.
-const VERSION: u32 = 10_000 * number(env!("CARGO_PKG_VERSION_MAJOR"))
-    + 100 * number(env!("CARGO_PKG_VERSION_MINOR"))
-    + number(env!("CARGO_PKG_VERSION_PATCH"));
+/// Whether a library of this layout has records with the same meaning, and all that these have.
+const fn suits(library: u32) -> bool {
+    library / 1000 == LAYOUT / 1000 && library >= LAYOUT
+}
 
 /// The number that a seat's call is told while another seat adds its own, and a call while another uses the kernel.
 const BUSY: u32 = 46;
@@ -151,14 +156,39 @@ const TRIES_AT_ONCE: u32 = 100;
 const TRIES_IN_TURN: u32 = 200;
 const TRIES: u32 = 400;
 
-/// Whether the library is of this crate's version.
-fn check_version() -> Result<(), Refusal> {
-    // SAFETY: the function takes nothing and looks at nothing.
-    if unsafe { histar_version() } == VERSION {
-        Ok(())
-    } else {
-        Err(Refusal::OtherVersion)
+/// Whether the library's layout suits this crate, and there is memory to tell this process from its children.
+fn begin() -> Result<(), Refusal> {
+    // SAFETY: these functions take nothing and look at no room.
+    match unsafe { (suits(histar_layout()), histar_process_begins()) } {
+        (false, _) => Err(Refusal::OtherVersion),
+        (true, 0) => Err(Refusal::Unavailable),
+        (true, _) => Ok(()),
     }
+}
+
+/// The number of this process. A child of fork has another.
+fn process() -> u64 {
+    // SAFETY: the library points to a number that stands as long as the program, and of which a read is whole.
+    unsafe { histar_process.read_volatile() }
+}
+
+/// How much stack is needed, by calls and by texts.
+const CALL_STACK: usize = 28 << 10;
+pub(crate) const TEXT_STACK: usize = 56 << 10;
+
+/// Wipes so much of this thread's stack below.
+pub(crate) fn wipe_below(depth: usize) {
+    // SAFETY: the function writes below this stack frame alone.
+    unsafe { histar_wipe_below(depth) }
+}
+
+/// Wipes a text that nobody reads again.
+pub(crate) fn wipe_text(text: &mut Vec<u8>) {
+    for byte in text.iter_mut() {
+        // SAFETY: a reference is a place that may be written.
+        unsafe { std::ptr::write_volatile(byte, 0) }
+    }
+    text.clear();
 }
 
 /// Writes zeros over a value that nobody reads again, so that the compiler may not leave it out.
@@ -185,6 +215,10 @@ struct Records {
 impl Records {
     /// Wipes the bytes, numbers and labels of a call that is over.
     fn wipe(&mut self) {
+        wipe(&mut self.request.numbers);
+        for label in [&mut self.request.label, &mut self.request.clearance, &mut self.request.verify] {
+            label.wipe();
+        }
         if self.request.len > 0 {
             wipe_bytes(&mut self.request.bytes);
             self.request.len = 0;
@@ -217,14 +251,6 @@ impl Taken<'_> {
     }
 }
 
-/// What is asked for is refused, since another call uses the kernel.
-#[cold]
-fn busy(fill: impl FnOnce(&mut Request)) -> Refused {
-    let mut request = Request::ZEROS;
-    fill(&mut request);
-    request.refused(Refusal::Busy)
-}
-
 /// What a room holds.
 #[derive(Clone, Copy, PartialEq, Eq)]
 enum Holds {
@@ -237,6 +263,10 @@ enum Holds {
 pub(crate) struct Raw {
     room: UnsafeCell<Box<Room>>,
     holds: Holds,
+    /// The process that opened it.
+    process: u64,
+    /// Of a seat, how many readers it has; of a reader, how many its seat has. One that is forgotten is among them.
+    readers: Arc<AtomicU32>,
     records: RefCell<Box<Records>>,
     // Not `Sync`: one call at a time uses a kernel.
     one_caller: PhantomData<*mut Room>,
@@ -255,6 +285,8 @@ impl Raw {
         let raw = Raw {
             room: UnsafeCell::new(room),
             holds,
+            process: process(),
+            readers: Arc::default(),
             records: RefCell::new(Box::new(Records { request: Request::ZEROS, answer: Answer::ZEROS })),
             one_caller: PhantomData,
         };
@@ -268,7 +300,7 @@ impl Raw {
 
     /// Boots a kernel, or tells why there is none.
     pub fn boot(limits: &Limits) -> Result<Raw, Refusal> {
-        check_version()?;
+        begin()?;
         let mut room = Room::new();
         // SAFETY: the room is this kernel's own and nothing is held in it yet. It is large enough and stands at a multiple of 16. From
         // here on it holds a kernel, or why there is none.
@@ -280,18 +312,20 @@ impl Raw {
 
     /// Opens a kernel at a text, or tells why there is none.
     pub fn boot_at(text: &[u8]) -> Result<Raw, Refusal> {
-        check_version()?;
+        begin()?;
         let mut room = Room::new();
         // SAFETY: as at a boot. The text is read for the length of the call, and nobody writes it meanwhile.
         unsafe {
             histar_boot_at(text.as_ptr(), text.len(), &mut *room);
-            Raw::of(room, Holds::Kernel)
+            let opened = Raw::of(room, Holds::Kernel);
+            wipe_below(TEXT_STACK);
+            opened
         }
     }
 
     /// Boots the first seat of a kernel that threads share, or tells why there is none.
     pub fn first_seat(limits: &Limits, most: u64, logs: bool) -> Result<Raw, Refusal> {
-        check_version()?;
+        begin()?;
         let mut room = Room::new();
         // SAFETY: as for a kernel.
         unsafe {
@@ -315,7 +349,15 @@ impl Raw {
 
     /// A reader of a seat's kernel, or why there is none.
     pub fn reader(&self) -> Result<Raw, Refusal> {
-        self.of_seat(histar_reader_of, Holds::Reader)
+        let mut reader = self.of_seat(histar_reader_of, Holds::Reader)?;
+        self.readers.fetch_add(1, Ordering::Relaxed);
+        reader.readers = Arc::clone(&self.readers);
+        Ok(reader)
+    }
+
+    /// Whether a seat has readers, so that it stays as it is.
+    fn is_read(&self) -> bool {
+        self.holds == Holds::Seat && self.readers.load(Ordering::Acquire) != 0
     }
 
     /// What the library makes of a seat in another room.
@@ -323,7 +365,10 @@ impl Raw {
         if self.holds != Holds::Seat {
             return Err(Refusal::BadBatch);
         }
-        let _taken = self.take(|_| ())?;
+        if self.process != process() {
+            return Err(Refusal::Unavailable);
+        }
+        let _taken = self.records.try_borrow_mut().map_err(|_| Refusal::Busy)?;
         let mut room = Room::new();
         // SAFETY: this room holds a seat, and keeps it. A `Raw` is not `Sync` and its records are taken, so nobody else is at this
         // room. The other room is as for a kernel.
@@ -362,17 +407,25 @@ impl Raw {
     /// refused.
     pub fn take(&self, fill: impl FnOnce(&mut Request)) -> Result<Taken<'_>, Refused> {
         match self.records.try_borrow_mut() {
-            Ok(records) => Ok(Taken { raw: self, records }),
-            Err(_) => Err(busy(fill)),
+            Ok(records) if self.process == process() && !self.is_read() => Ok(Taken { raw: self, records }),
+            _ => Err(self.refuse(fill)),
         }
     }
 
     /// One call.
     pub fn ask<R>(&self, fill: impl FnOnce(&mut Request), read: impl FnOnce(&Answer) -> R) -> Result<R, Refused> {
         match self.records.try_borrow_mut() {
-            Ok(records) => Taken { raw: self, records }.ask(fill, read),
-            Err(_) => Err(busy(fill)),
+            Ok(records) if self.process == process() && !self.is_read() => Taken { raw: self, records }.ask(fill, read),
+            _ => Err(self.refuse(fill)),
         }
+    }
+
+    /// What is asked for is refused: in a child of fork, or since another call uses the kernel, or a reader the seat.
+    #[cold]
+    fn refuse(&self, fill: impl FnOnce(&mut Request)) -> Refused {
+        let mut request = Request::ZEROS;
+        fill(&mut request);
+        request.refused(if self.process == process() { Refusal::Busy } else { Refusal::Unavailable })
     }
 }
 
@@ -387,7 +440,22 @@ impl Drop for Raw {
                 Holds::Reader => histar_reader_end(room),
             }
         }
+        if self.holds == Holds::Reader {
+            self.readers.fetch_sub(1, Ordering::Release);
+        }
         wipe(&mut room.0);
-        self.records.get_mut().request = Request::ZEROS;
+        self.records.get_mut().wipe();
+        wipe_below(CALL_STACK);
+    }
+}
+
+#[cfg(test)]
+mod tests {
+    use super::{suits, LAYOUT};
+
+    #[test]
+    fn a_library_with_more_of_the_same_meaning_suits() {
+        assert!(suits(LAYOUT) && suits(LAYOUT + 1));
+        assert!(!suits(LAYOUT - 1) && !suits(LAYOUT - 1000) && !suits(LAYOUT + 1000) && !suits(100));
     }
 }

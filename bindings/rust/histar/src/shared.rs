@@ -279,7 +279,7 @@ impl Seat {
     /// [`OtherList`] where the older seat is of another shared kernel, or has seen more, `TextMemory` where the library has no memory for a
     /// part, and what `out` gives; what was written before stays.
     pub fn dump_since(&self, older: &Seat, out: &mut impl std::io::Write) -> std::io::Result<()> {
-        let note = self.seen();
+        let note = self.try_seen()?;
         if note.shared != older.shared {
             return Err(Refused::of("dump_since", Refusal::OtherList).into());
         }
@@ -287,7 +287,8 @@ impl Seat {
         older.kernel.dump_to(out)
     }
 
-    /// A note of what the seat has seen. It panics where it is asked for by what a dump of the seat is written to.
+    /// A note of what the seat has seen. It panics where it is asked for by what a dump of the seat is written to, where a reader of the seat was
+    /// forgotten, and in a child of fork.
     ///
     /// ```
     /// let first = histar::Seat::share(64, 10)?;
@@ -298,8 +299,12 @@ impl Seat {
     /// # Ok::<(), histar::Refused>(())
     /// ```
     pub fn seen(&self) -> Note {
-        let calls = self.kernel.raw.ask(|request| request.put(43, &Entry::NONE, []), |answer| answer.numbers[0]);
-        Note { shared: self.shared, calls: calls.unwrap_or_else(|_| panic!("the seat is at its dump")) }
+        self.try_seen().unwrap_or_else(|refused| panic!("the seat is not to be asked: {refused}"))
+    }
+
+    fn try_seen(&self) -> Result<Note, Refused> {
+        let calls = self.kernel.raw.ask(|request| request.put(43, &Entry::NONE, []), |answer| answer.numbers[0])?;
+        Ok(Note { shared: self.shared, calls })
     }
 
     /// The seat sees all that the note tells, so its reads from here on do.
@@ -331,7 +336,8 @@ pub struct View<'a> {
 }
 
 impl View<'_> {
-    /// A reader of the seat, for another thread. It takes no kernel.
+    /// A reader of the seat, for another thread. It takes no kernel. Where it is forgotten (`std::mem::forget`), calls through the seat are refused
+    /// [`Busy`] from then on.
     ///
     /// ```
     /// let mut seat = histar::Seat::share(64, 10)?;

@@ -2,39 +2,37 @@
  * the kernel as it was: the dump of its log, which has the state, is the same before and after.
  *
  * misuse   prints how many rows there are, and each that went otherwise */
-#define _GNU_SOURCE
-#include "histar.h"
+#include "misuse.h"
 #include "histar_debug.h"
 #include <pthread.h>
 #include <signal.h>
-#include <stdio.h>
-#include <stdlib.h>
 #include <sys/mman.h>
 #include <sys/time.h>
-#include <sys/wait.h>
-#include <unistd.h>
 
 #define FAR ((uint64_t)1 << 32)
 
 /* The kernel that is misused: it has a log, a secret at level 3 in a category, a stranger, an address space and a packet. And
  * others: one that is closed, and one that was never open. */
-static histar k, closed, never;
+histar k, closed;
+static histar never;
 /* A seat of a shared kernel whose list has a log and one call, and a seat that is closed. */
-static histar seat, unseated;
+histar seat;
+static histar unseated;
 static histar_object shared_segment;
-static histar_object secret, stranger, space;
+histar_object secret;
+static histar_object stranger, space;
 static histar_label plain, guarded;
 static char place[64];
 static const char KEY[] = "the-key-that-nobody-may-see";
 
-static void must(uint32_t refusal)
+void must(uint32_t refusal)
 {
     if (!refusal) return;
     fprintf(stderr, "misuse: refused %u %s\n", refusal, histar_refusal_name(refusal));
     exit(2);
 }
 
-static histar_entry in_root(histar_object object) { return histar_in(HISTAR_ROOT, object); }
+histar_entry in_root(histar_object object) { return histar_in(HISTAR_ROOT, object); }
 
 static void opens(void)
 {
@@ -60,7 +58,7 @@ static void opens(void)
 
 /* ---- Kernels that are not open, or are already ---- */
 
-static uint32_t is_called(histar *kernel) { return histar_cat_create(kernel, HISTAR_BOOT, NULL); }
+uint32_t is_called(histar *kernel) { return histar_cat_create(kernel, HISTAR_BOOT, NULL); }
 static uint32_t never_opened(void) { return is_called(&never); }
 static uint32_t new_on_the_stack(void)
 {
@@ -377,30 +375,6 @@ static uint32_t two_threads(void)
     return busy && own_busy && !got && !wrong ? HISTAR_BUSY : HISTAR_DONE;
 }
 
-static void *dumps_until_stopped(void *given)
-{
-    (void)given;
-    while (!__atomic_load_n(&stop, __ATOMIC_SEQ_CST)) dumps();
-    return NULL;
-}
-
-/* In a child that was forked in the middle of another thread's call, the kernel stays busy. */
-static uint32_t forked_in_a_call(void)
-{
-    pthread_t other;
-    int status = 0;
-    stop = 0;
-    must((uint32_t)pthread_create(&other, NULL, dumps_until_stopped, NULL));
-    for (int i = 0; i < 10000 && status != HISTAR_BUSY << 8; i++) {
-        pid_t child = fork();
-        if (!child) _exit((int)is_called(&k));
-        waitpid(child, &status, 0);
-    }
-    __atomic_store_n(&stop, 1, __ATOMIC_SEQ_CST);
-    pthread_join(other, NULL);
-    return status == HISTAR_BUSY << 8 ? HISTAR_BUSY : HISTAR_DONE;
-}
-
 /* ---- Bytes that stay ---- */
 
 static int has_key(const void *bytes, size_t len) { return memmem(bytes, len, KEY, sizeof KEY) != NULL; }
@@ -646,6 +620,12 @@ static uint32_t dump_by_a_reader(void) { return with_a_reader(dumps_by_it); }
 static uint32_t readers_at_once(void) { return with_a_reader(reads_at_once); }
 static uint32_t reader_of_a_kernel(void) { return histar_reader_open(&reader, &k); }
 static uint32_t reader_of_a_closed_seat(void) { return histar_reader_open(&reader, &unseated); }
+static uint32_t reader_of_a_copy(void)
+{
+    static histar copy;
+    memcpy(&copy, &seat, sizeof seat);
+    return histar_reader_open(&reader, &copy);
+}
 static uint32_t reader_of_itself(void) { return histar_reader_open(&reader, &reader); }
 static uint32_t reader_of_a_seat_in_a_call(void)
 {
@@ -809,11 +789,7 @@ static uint32_t written_with_the_key(void)
     return has_key(&closed, sizeof closed) ? HISTAR_DONE : is_called(&closed);
 }
 
-static const struct row {
-    const char *what;
-    uint32_t refusal;
-    uint32_t (*misuses)(void);
-} ROWS[] = {
+static const struct row ROWS[] = {
     {"a kernel that was never opened", HISTAR_UNAVAILABLE, never_opened},
     {"a kernel on the stack that was never opened", HISTAR_UNAVAILABLE, new_on_the_stack},
     {"a read after the close", HISTAR_UNAVAILABLE, read_closed},
@@ -880,7 +856,6 @@ static const struct row {
     {"a close by the handler of a signal", HISTAR_BUSY, closed_by_a_handler},
     {"an open by the handler of a signal", HISTAR_BUSY, opened_by_a_handler},
     {"calls by two threads at once", HISTAR_BUSY, two_threads},
-    {"a call in a child that was forked in a call", HISTAR_BUSY, forked_in_a_call},
     {"a stranger's read after a reader", HISTAR_CANNOT_OBSERVE, read_after_a_reader},
     {"a call after a close with the key in it", HISTAR_UNAVAILABLE, closed_with_the_key},
     {"a second share", HISTAR_BUSY, shared_twice},
@@ -928,6 +903,7 @@ static const struct row {
     {"a reader of a reader", HISTAR_UNAVAILABLE, reader_of_a_reader},
     {"a reader of a kernel", HISTAR_UNAVAILABLE, reader_of_a_kernel},
     {"a reader of a closed seat", HISTAR_UNAVAILABLE, reader_of_a_closed_seat},
+    {"a reader of a copy of a seat", HISTAR_UNAVAILABLE, reader_of_a_copy},
     {"a reader of itself", HISTAR_BUSY, reader_of_itself},
     {"a reader of a seat in a call", HISTAR_BUSY, reader_of_a_seat_in_a_call},
     {"a call by a closed reader", HISTAR_UNAVAILABLE, called_by_a_closed_reader},
@@ -961,6 +937,7 @@ static const struct row {
     {"an open at a text where a seat is", HISTAR_BUSY, opened_at_where_a_seat_is},
     {"an open at a text in a call", HISTAR_BUSY, opened_at_in_a_call},
     {"a call after a close with the written key in it", HISTAR_UNAVAILABLE, written_with_the_key},
+    {NULL, HISTAR_DONE, NULL},
 };
 
 /* The log's dump, which has the state. */
@@ -971,14 +948,12 @@ static size_t dump_of(char *text, size_t size)
     return needed;
 }
 
-int main(void)
+/* Plays the rows of a table, and tells each that went otherwise. How many went well. */
+static size_t played(const struct row *row, size_t *count)
 {
     static char before[1 << 16], after[1 << 16];
-    size_t count = sizeof ROWS / sizeof ROWS[0], went_well = 0;
-    histar_object next;
-    opens();
-    for (size_t i = 0; i < count; i++) {
-        const struct row *row = &ROWS[i];
+    size_t went_well = 0;
+    for (; row->what; row++, ++*count) {
         size_t len = dump_of(before, sizeof before);
         uint32_t refusal;
         memset(place, 0, sizeof place);
@@ -987,6 +962,15 @@ int main(void)
         else if (dump_of(after, sizeof after) != len || memcmp(before, after, len)) printf("%s: the kernel is changed\n", row->what);
         else went_well++;
     }
+    return went_well;
+}
+
+int main(void)
+{
+    size_t count = 0, went_well;
+    histar_object next;
+    opens();
+    went_well = played(ROWS, &count) + played(LEFT, &count) + played(FORKED, &count);
     /* The shared kernel is as it was: its list has one call, and its next object is the one after. */
     must(histar_segment_create(&seat, HISTAR_BOOT, HISTAR_ROOT, &plain, 2, 1, &next));
     if (next.id != shared_segment.id + 1) went_well--, printf("the shared kernel is changed\n");
