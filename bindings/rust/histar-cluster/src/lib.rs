@@ -9,6 +9,7 @@
 mod agreements;
 pub mod engine;
 mod entry;
+mod history;
 mod kernel;
 mod keys;
 mod machine;
@@ -22,6 +23,7 @@ mod sha256;
 mod spelling;
 mod state;
 mod survey;
+mod view;
 
 pub use entry::Item;
 pub use kernel::limits;
@@ -33,3 +35,4 @@ pub use replica::{Replica, Start};
 pub use running::{Called, Reader, Running, Uncalled, Waiting};
 pub use sha256::Digest;
 pub use survey::{audit, range, Standing, Survey};
+pub use view::{Reads, View};

@@ -1,7 +1,7 @@
 //! A node as a state machine: what came in goes to a function, what is to be sent or told comes out of [`Node::next_output`]. It does no
 //! input or output and looks at no clock, so a simulation plays the same code as a program.
 use crate::agreements::Agreements;
-use crate::engine::{Answer, Request};
+use crate::engine::{Answer, Pair, Request};
 use crate::keys::{Key, Keys};
 use crate::receipt::{Fault, Note, Receipt};
 use crate::replica::Start;
@@ -40,6 +40,14 @@ pub struct Options {
     pub any: u64,
 }
 
+impl Options {
+    /// What a cluster is begun with by a node that is started so.
+    pub(crate) fn boot<M: Machine>(&self) -> Boot {
+        let (interval, limits) = (self.interval.max(1), self.limits.clone());
+        Boot { rules: M::RULES, interval, limits, first: self.node.clone() }
+    }
+}
+
 /// What a node wants done.
 #[derive(Debug)]
 pub enum Output<R> {
@@ -63,6 +71,7 @@ enum Purpose {
         lane: usize,
         number: u64,
     },
+    Point,
     /// It is asked until it is answered.
     Surely,
     /// It is asked once.
@@ -100,7 +109,7 @@ pub struct Status {
     pub incarnation: Option<u64>,
     /// How many submissions wait for their receipt.
     pub waiting: usize,
-    /// The last place for whose checkpoint the node lacked memory. It keeps its own keys up to the next one for which it does not.
+    /// After so many entries the node lacked memory for a checkpoint. It keeps its own keys up to the next one for which it does not.
     pub unwritten: Option<u64>,
     /// Why the engine does not do what the node asks, as that it has no space. What waits goes on once it does.
     pub trouble: Option<String>,
@@ -112,14 +121,20 @@ pub struct Node<M: Machine> {
     keys: Keys,
     phase: Phase<M>,
     engine: Option<u64>,
-    boot: Option<Boot>,
+    // What the cluster was begun with.
+    begun: Option<Pair>,
     reached: u64,
-    // The last marks that the node came by.
+    // The last marks that the node came by, by their numbers of entries.
     marks: BTreeMap<u64, Mark>,
     unwritten: Option<u64>,
     agreements: Agreements,
+    // The places up to which nodes have played.
+    seen: BTreeMap<Name, u64>,
+    // The number of entries of the point that the node has put.
+    said: Option<u64>,
     dropped: u64,
     drops: VecDeque<Request>,
+    forgotten: u64,
     writer: Writer,
     queue: VecDeque<Queued>,
     trouble: Option<String>,
@@ -137,25 +152,21 @@ impl<M: Machine> Node<M> {
     /// A node that begins: it boots the cluster, or restores and plays what the others have.
     pub fn new(options: Options) -> Node<M> {
         let keys = Keys::new(options.cluster.clone());
-        let boot = Boot {
-            rules: M::RULES,
-            interval: options.interval.max(1),
-            limits: options.limits.clone(),
-            first: options.node.clone(),
-        };
-        let first = Request::Put { key: keys.boot(), value: boot.bytes(), lease: None, only_new: true };
         let mut node = Node {
             options,
             keys,
             phase: Phase::Boots,
             engine: None,
-            boot: None,
+            begun: None,
             reached: 0,
             marks: BTreeMap::new(),
             unwritten: None,
             agreements: Agreements::default(),
+            seen: BTreeMap::new(),
+            said: None,
             dropped: 0,
             drops: VecDeque::new(),
+            forgotten: 0,
             writer: Writer::None,
             queue: VecDeque::new(),
             trouble: None,
@@ -167,7 +178,7 @@ impl<M: Machine> Node<M> {
             again: Vec::new(),
             outputs: VecDeque::new(),
         };
-        node.ask(Purpose::Boot, first);
+        node.look_at_boot();
         node
     }
 
@@ -184,9 +195,9 @@ impl<M: Machine> Node<M> {
         }
     }
 
-    /// The machine, for calls that change nothing; none before it is booted and once the node has stopped.
-    pub fn machine(&mut self) -> Option<&mut M> {
-        self.state_mut().map(|state| &mut state.machine)
+    /// A view of the machine; none before it is booted and once the node has stopped.
+    pub fn view(&mut self) -> Option<M::View<'_>> {
+        self.state_mut().map(|state| state.machine.view())
     }
 
     /// Where a replica of the machine begins; nothing before it is booted and once the node has stopped.
@@ -205,12 +216,13 @@ impl<M: Machine> Node<M> {
     /// How the node is, unless it has not booted yet or has stopped.
     pub fn status(&self) -> Option<Status> {
         let state = self.state()?;
+        let point = state.point();
         let incarnation = self.writer.incarnation().map(|of| of.number);
         Some(Status {
             reached: self.reached,
-            entries: state.entries(),
+            entries: point.entries,
             rules: state.rules(),
-            digest: state.digest(),
+            digest: point.digest,
             incarnation,
             waiting: self.queue.len() + self.writer.waiting(),
             unwritten: self.unwritten,
@@ -311,6 +323,7 @@ impl<M: Machine> Node<M> {
         match asked.purpose {
             Purpose::Watch => self.watch_lost(),
             Purpose::Fence { .. } => self.writer = Writer::None, // (a fence that was put ends with its lease)
+            Purpose::Point => self.said = None,
             Purpose::Once => {}
             Purpose::Pages(pages) if pages.is_now_and_then() => {}
             _ => self.again.push(asked),
@@ -325,8 +338,10 @@ impl<M: Machine> Node<M> {
         }
         self.ticks += 1;
         for asked in std::mem::take(&mut self.again) {
-            if self.is_needed(&asked.purpose) {
-                self.ask(asked.purpose, asked.request);
+            match asked.purpose {
+                Purpose::Boot => self.look_at_boot(), // (who begins the cluster may be another one)
+                purpose if self.is_needed(&purpose) => self.ask(purpose, asked.request),
+                _ => {}
             }
         }
         if self.is_following() {

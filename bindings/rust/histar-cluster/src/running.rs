@@ -164,13 +164,13 @@ where
     ///
     /// # Errors
     /// Why the node has stopped.
-    pub fn read<T>(&self, read: impl FnOnce(&mut M) -> T) -> Result<T, Fault> {
-        if let Some(machine) = self.shared.core().node.machine() {
-            return Ok(read(machine));
+    pub fn read<T>(&self, read: impl FnOnce(M::View<'_>) -> T) -> Result<T, Fault> {
+        if let Some(view) = self.shared.core().node.view() {
+            return Ok(read(view));
         }
         let mut core = self.booted()?;
-        let machine = core.node.machine().unwrap_or_else(|| unreachable!("the node has booted"));
-        Ok(read(machine))
+        let view = core.node.view().unwrap_or_else(|| unreachable!("the node has booted"));
+        Ok(read(view))
     }
 
     /// A seat for a thread that reads.
@@ -192,7 +192,7 @@ where
 
     /// Waits until the node has a machine.
     fn booted(&self) -> Result<MutexGuard<'_, Core<M>>, Fault> {
-        self.until(|node| node.machine().is_some())
+        self.until(|node| node.view().is_some())
     }
 
     fn until(&self, holds: impl Fn(&mut Node<M>) -> bool) -> Result<MutexGuard<'_, Core<M>>, Fault> {
@@ -269,10 +269,10 @@ where
     /// # Errors
     /// As [`Running::reader`].
     #[inline]
-    pub fn read<T>(&mut self, read: impl FnOnce(&mut M) -> T) -> Result<T, Fault> {
+    pub fn read<T>(&mut self, read: impl FnOnce(M::View<'_>) -> T) -> Result<T, Fault> {
         loop {
-            if let Some(machine) = self.replica.machine() {
-                return Ok(read(machine));
+            if let Some(view) = self.replica.view() {
+                return Ok(read(view));
             }
             self.begin_anew()?;
         }

@@ -8,7 +8,7 @@ use histar_cluster::{Fault, Item, Name, Node, Options, Output, Receipt, Running,
 use model::{Call, Model, Reply};
 use std::collections::{BTreeSet, VecDeque};
 use std::sync::atomic::{AtomicBool, AtomicU64, Ordering};
-use std::time::Duration;
+use std::time::{Duration, Instant};
 
 fn name(text: &str) -> Name {
     Name::new(text).expect("a name")
@@ -260,9 +260,11 @@ fn unknown_rules_stop_each_node_at_their_place() {
     let mut reader = north.reader().expect("a reader");
     assert_eq!(reader.read(|model| model.replies.len()), Ok(0));
     let waiting = north.submit(&[call(2, 1, 0), Item::Rules(3)]).expect("a node that runs");
-    assert_eq!((waiting.wait(), stops(&north), stops(&south)), (None, Fault::UnknownRules(3), Fault::UnknownRules(3)));
-    assert_eq!(north.latest(), Err(Uncalled::Stopped(Fault::UnknownRules(3))));
-    assert_eq!(reader.read(|model| model.replies.len()), Err(Fault::UnknownRules(3)));
+    let Fault::UnknownRules { rules: 3, place } = stops(&north) else { panic!("{:?}", north.fault()) };
+    let fault = Fault::UnknownRules { rules: 3, place };
+    assert_eq!((waiting.wait(), stops(&south)), (None, fault.clone()));
+    assert_eq!(north.latest(), Err(Uncalled::Stopped(fault.clone())));
+    assert_eq!(reader.read(|model| model.replies.len()), Err(fault));
 }
 
 #[test]
@@ -287,7 +289,7 @@ fn a_gap_stops_each_node() {
     let north = open(&store, "north");
     told(&north, &[call(2, 1, 0)]);
     with(&store, |store| store.put(b"/c/log/e/south/02.00/02", b"\x01", None));
-    assert_eq!(stops(&north), Fault::Gap);
+    assert!(matches!(stops(&north), Fault::Gap { node, .. } if node == name("south")));
 }
 
 #[test]
@@ -302,7 +304,7 @@ fn another_state_at_a_place_stops_a_node() {
         }
     };
     with(&store, |store| store.put(agreement.replace("north", "south").as_bytes(), &[7; 32], None));
-    assert!(matches!(stops(&north), Fault::Differs(_)));
+    assert!(matches!(stops(&north), Fault::Differs { node, entries: 4, .. } if node == name("south")));
 }
 
 #[test]
@@ -381,4 +383,52 @@ fn the_log_is_dropped_where_two_nodes_agree() {
     east.latest().expect("a note");
     assert!(east.read(|model| (1..=number).all(|it| model.replies.contains_key(&it))).expect("a machine"));
     assert_eq!(south.fault(), None);
+}
+
+/// Nodes that have seen all that any of them has put are in one state, or one of them has stopped.
+fn are_alike_or_stop(nodes: &[&Running<Model>]) {
+    let end = Instant::now() + Duration::from_secs(10);
+    while Instant::now() < end {
+        if nodes.iter().any(|node| node.fault().is_some()) {
+            return;
+        }
+        std::thread::sleep(Duration::from_millis(20));
+    }
+    let notes: Vec<_> = nodes.iter().map(|node| node.latest()).collect();
+    if let Some(last) = notes.into_iter().collect::<Result<Vec<_>, _>>().ok().and_then(|notes| notes.into_iter().max()) {
+        if nodes.iter().all(|node| node.reaches(last).is_ok()) {
+            let states: Vec<_> = nodes.iter().map(|it| it.status().map(|it| (it.entries, it.digest))).collect();
+            assert!(states.iter().all(|state| *state == states[0]), "{states:?}");
+        }
+    }
+}
+
+/// The first entry of a lane of a node that lies.
+fn lie(lane: u64) -> Vec<u8> {
+    format!("/c/log/e/evil/02.0{lane}/01").into_bytes()
+}
+
+#[test]
+fn entries_of_one_transaction_are_played_alike() {
+    let store = Memory::new();
+    let (north, south) = north_and_south(&store);
+    told(&north, &[call(2, 1, 0)]);
+    with(&store, |store| store.transact(&[(lie(1), Some(b"x".to_vec())), (lie(0), Some(b"y".to_vec()))]));
+    told(&north, &[call(2, 2, 0)]);
+    let east = open(&store, "east");
+    are_alike_or_stop(&[&north, &south, &east]);
+}
+
+#[test]
+fn an_entry_that_is_deleted_or_changed_is_told_of() {
+    for left in [None, Some(b"other".to_vec())] {
+        let store = Memory::new();
+        let (north, south) = north_and_south(&store);
+        told(&north, &[call(2, 1, 0)]);
+        with(&store, |store| store.put(&lie(0), b"x", None));
+        told(&north, &[call(2, 2, 0)]);
+        with(&store, |store| store.transact(&[(lie(0), left)]));
+        let east = open(&store, "east");
+        are_alike_or_stop(&[&north, &south, &east]);
+    }
 }

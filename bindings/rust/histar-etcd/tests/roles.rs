@@ -10,13 +10,12 @@ use std::path::{Path, PathBuf};
 use std::process::{Child, Command, Stdio};
 use std::time::{Duration, Instant};
 
-const CLIENTS: &str = "127.0.0.1:24890";
 
 /// Certificates, the member with TLS, and the roles.
 const SETUP: &str = r#"
 set -e
 openssl req -x509 -newkey rsa:2048 -nodes -keyout ca.key -out ca.pem -subj /CN=ca -days 2 2>/dev/null
-for n in member root north south; do
+for n in member root north south east west; do
     openssl req -newkey rsa:2048 -nodes -keyout $n.key -out $n.csr -subj /CN=$n 2>/dev/null
     printf 'subjectAltName=DNS:localhost,IP:127.0.0.1\n' > ext
     openssl x509 -req -in $n.csr -CA ca.pem -CAkey ca.key -CAcreateserial -out $n.pem -days 2 -extfile ext 2>/dev/null
@@ -29,11 +28,12 @@ fn documented() -> String {
         .expect("docs/CLUSTER.md");
     let block = page.split("```sh\n").nth(1).and_then(|rest| rest.split("```").next()).expect("a block of commands");
     let roles: Vec<&str> = block.lines().filter(|line| !line.starts_with("histar-cluster")).collect();
-    format!("set -e\n{}\n", roles.join("\n"))
+    format!("set -e\n{}\n", roles.join("\n").replace("north south east", "north south east west"))
 }
 
 struct Tls {
     folder: PathBuf,
+    port: u16,
     member: Option<Child>,
 }
 
@@ -57,17 +57,20 @@ impl Tls {
             .stderr(Stdio::null())
             .stdout(Stdio::null());
         command
-            .env("ETCDCTL_ENDPOINTS", format!("https://{CLIENTS}"))
+            .env("ETCDCTL_ENDPOINTS", format!("https://127.0.0.1:{}", self.port))
             .env("ETCDCTL_CACERT", self.folder.join("ca.pem"));
         command.env("ETCDCTL_CERT", file("pem")).env("ETCDCTL_KEY", file("key"));
         command.status().expect("a shell").success()
     }
 
     fn begin(&mut self) {
-        let client = format!("https://{CLIENTS}");
-        let words = "--listen-peer-urls http://127.0.0.1:24891 --initial-advertise-peer-urls http://127.0.0.1:24891 \
-                     --initial-cluster default=http://127.0.0.1:24891 --client-cert-auth --trusted-ca-file ca.pem \
-                     --cert-file member.pem --key-file member.key --data-dir data --log-level error";
+        let client = format!("https://127.0.0.1:{}", self.port);
+        let peer = format!("http://127.0.0.1:{}", self.port + 1);
+        let words = format!(
+            "--listen-peer-urls {peer} --initial-advertise-peer-urls {peer} --initial-cluster default={peer} \
+             --client-cert-auth --trusted-ca-file ca.pem --cert-file member.pem --key-file member.key --data-dir data \
+             --log-level error"
+        );
         let mut command = Command::new("etcd");
         command.args(words.split_whitespace()).args([
             "--listen-client-urls",
@@ -85,7 +88,7 @@ impl Tls {
         let name = |text| Name::new(text).expect("a name");
         let options =
             Options { cluster: name("files"), node: name(node), limits: Vec::new(), lanes: 1, interval: 50, any: 1 };
-        let members = vec![CLIENTS.replace("127.0.0.1", "localhost")];
+        let members = vec![format!("localhost:{}", self.port)];
         Running::open(Etcd { members, tls: Some(tls(&files).expect("files")), lease: 5 }, options)
     }
 }
@@ -94,20 +97,62 @@ fn is_there(program: &str) -> bool {
     Command::new(program).arg("version").stdout(Stdio::null()).stderr(Stdio::null()).status().is_ok()
 }
 
-#[test]
-fn a_role_holds_a_node_to_its_own_keys() {
+/// A member with TLS and the roles of the document. Nothing where a program is not there.
+fn with_roles(port: u16) -> Option<Tls> {
     if !["etcd", "etcdctl", "openssl"].iter().all(|program| is_there(program)) {
         println!("left out: etcd, etcdctl or openssl is not on the path");
-        return;
+        return None;
     }
-    let folder = std::env::temp_dir().join(format!("histar-roles-{}", std::process::id()));
+    let folder = std::env::temp_dir().join(format!("histar-roles-{port}-{}", std::process::id()));
     std::fs::create_dir_all(&folder).expect("a folder");
-    let mut it = Tls { folder, member: None };
+    let mut it = Tls { folder, port, member: None };
     assert!(it.shell(SETUP, "root"), "certificates");
     it.begin();
     std::thread::sleep(Duration::from_secs(2));
     assert!(it.shell(&documented(), "root"), "the commands of docs/CLUSTER.md");
+    Some(it)
+}
 
+/// Nodes that have seen all that any of them has put are in one state, or one of them has stopped.
+fn are_alike_or_stop(nodes: &[&Running<Model>]) {
+    std::thread::sleep(Duration::from_secs(10));
+    if nodes.iter().any(|node| node.fault().is_some()) {
+        return;
+    }
+    let note = nodes.iter().map(|node| node.latest().expect("a note")).max().expect("a node");
+    nodes.iter().for_each(|node| node.reaches(note).expect("a node that runs"));
+    let states: Vec<_> = nodes.iter().map(|it| it.status().map(|it| (it.entries, it.digest))).collect();
+    assert!(states.iter().all(|state| *state == states[0]), "{states:?}");
+}
+
+fn call(node: &Running<Model>, number: u64) {
+    let waiting = node.submit(&[Item::Call(Call { thread: 2, number, deed: 0 })]).expect("a node that runs");
+    assert!(matches!(waiting.wait(), Some(Receipt::Told { .. })), "{:?}", node.fault());
+}
+
+#[test]
+fn what_a_liar_may_put_splits_nobody() {
+    let lies = [
+        "printf '\\nput /files/log/e/south/02.01/01 x\\nput /files/log/e/south/02.00/01 y\\n\\n\\n' | etcdctl txn",
+        "etcdctl del /files/log/e/south/02.01/01",
+        "etcdctl put /files/log/e/south/02.00/01 z",
+    ];
+    for (at, lie) in lies.iter().enumerate() {
+        let Some(it) = with_roles(24894 + 2 * at as u16) else { return };
+        let (north, west) = (it.open("north", "north"), it.open("west", "west"));
+        call(&north, 1);
+        west.latest().expect("a note");
+        assert!(it.shell(lies[0], "south"), "{}", lies[0]);
+        call(&north, 2);
+        assert!(at == 0 || it.shell(lie, "south"), "{lie}");
+        let east = it.open("east", "east");
+        are_alike_or_stop(&[&north, &west, &east]);
+    }
+}
+
+#[test]
+fn a_role_holds_a_node_to_its_own_keys() {
+    let Some(it) = with_roles(24890) else { return };
     let north = it.open("north", "north");
     let waiting = north.submit(&[Item::Call(Call { thread: 2, number: 1, deed: 0 })]).expect("a node that runs");
     assert!(matches!(waiting.wait(), Some(Receipt::Told { .. })));

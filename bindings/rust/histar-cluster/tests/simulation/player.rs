@@ -6,7 +6,7 @@ use histar_cluster::{limits, Machine, Unrestored, Written};
 use std::collections::BTreeMap;
 
 /// A machine whose calls have numbers.
-pub trait Player: Machine<Reply: PartialEq> {
+pub trait Player: for<'m> Machine<Reply: PartialEq, View<'m> = &'m mut Self> + 'static {
     fn limits() -> Vec<u8>;
     /// A call of a number: to do nothing but what shows (0), to make a thread (1), or to end (2).
     fn call(thread: u64, number: u64, deed: u64) -> Self::Call;
@@ -75,6 +75,7 @@ fn take_answers(bytes: &mut &[u8]) -> Option<BTreeMap<u64, Vec<u8>>> {
 impl Machine for Real {
     type Call = (u64, Record);
     type Reply = Result<histar::Reply, Refused>;
+    type View<'m> = &'m mut Real;
     const RULES: u64 = Kernel::RULES;
 
     fn boot(limits: &[u8]) -> Result<Real, String> {
@@ -89,6 +90,9 @@ impl Machine for Real {
         self.answers.insert(*number, bytes_of(&reply));
         self.played.push((*number, reply.clone()));
         reply
+    }
+    fn view(&mut self) -> &mut Real {
+        self
     }
     fn is_live(&self, thread: u64) -> bool {
         Machine::is_live(&self.kernel, thread)

@@ -70,10 +70,10 @@ struct Process<P: Player> {
 impl<P: Player> Process<P> {
     /// The machine of a reader; none where the node has none, or lacks memory.
     fn reads(&mut self) -> Option<&mut P> {
-        if self.replica.as_mut().and_then(Replica::machine).is_none() {
+        if self.replica.as_mut().and_then(Replica::view).is_none() {
             self.replica = self.node.start()?.and_then(Start::open).ok();
         }
-        self.replica.as_mut().and_then(Replica::machine)
+        self.replica.as_mut().and_then(Replica::view)
     }
 }
 
@@ -416,7 +416,7 @@ impl<P: Player> World<P> {
             self.store.forget();
         }
         let incarnation = it.node.status().and_then(|status| status.incarnation);
-        if let Some(machine) = it.node.machine() {
+        if let Some(machine) = it.node.view() {
             machine.lack_memory(lacks);
         }
         let reached = it.node.seen();
@@ -442,7 +442,7 @@ impl<P: Player> World<P> {
 
     /// Looks at what a node has played, sends and tells.
     fn look(&mut self, process: usize, before: u64) {
-        let played = self.processes[process].node.machine().map(Player::take_played);
+        let played = self.processes[process].node.view().map(Player::take_played);
         for (number, reply) in played.unwrap_or_default() {
             if number >= LIES {
                 self.breaks("a call of another node's thread was played");
@@ -546,7 +546,7 @@ impl<P: Player> World<P> {
     fn sees(&mut self, process: usize, count: usize) {
         let Some((number, reply)) = count.checked_sub(1).map(|last| self.answered[last].clone()) else { return };
         let it = &mut self.processes[process];
-        let seen = it.node.machine().map(|it| it.has_answered(number, &reply));
+        let seen = it.node.view().map(|it| it.has_answered(number, &reply));
         if seen == Some(false) || (process == 0 && it.reads().is_some_and(|it| !it.has_answered(number, &reply))) {
             self.breaks("a read is behind what its caller has seen");
         }
