@@ -272,12 +272,18 @@ impl<M: Machine> Node<M> {
         self.outputs.push_back(Output::Tell(ticket, receipt));
     }
 
-    /// Stops for good. Who waits is told nothing: a later start of the node can't know either.
+    /// Stops for good. Who waits is told nothing: a later start of the node can't know either. A node that has answered by another log than some
+    /// node's says so, as it can't know which of both was changed: then that one stops too.
     fn stop(&mut self, fault: Fault) {
-        self.phase = Phase::Stopped(fault);
+        let differs = matches!(fault, Fault::Differs { .. } | Fault::Gap { .. });
+        let last = self.state().filter(|_| differs && self.is_following()).map(|state| state.point().bytes());
         self.asked.clear();
         self.again.clear();
         self.outputs.clear();
+        if let Some(value) = last {
+            self.ask_put(Purpose::Point, self.keys.seen(&self.options.node), value, None);
+        }
+        self.phase = Phase::Stopped(fault);
     }
 
     /// An answer of the engine to the request of a number, with the identity of the engine's cluster.

@@ -14,6 +14,8 @@ pub trait Player: for<'m> Machine<Reply: PartialEq, View<'m> = &'m mut Self> + '
     fn made_by(reply: &Self::Reply) -> Option<u64>;
     /// The calls that were played since the last look.
     fn take_played(&mut self) -> Vec<(u64, Self::Reply)>;
+    /// Whether a call was played.
+    fn has_played(&self, number: u64) -> bool;
     /// Whether a call was answered so.
     fn has_answered(&self, number: u64, reply: &Self::Reply) -> bool;
     /// From here on it lacks memory for a checkpoint, or has some.
@@ -32,6 +34,9 @@ impl Player for Model {
     }
     fn take_played(&mut self) -> Vec<(u64, Reply)> {
         std::mem::take(&mut self.played)
+    }
+    fn has_played(&self, number: u64) -> bool {
+        self.replies.contains_key(&number)
     }
     fn has_answered(&self, number: u64, reply: &Reply) -> bool {
         self.replies.get(&number) == Some(reply)
@@ -162,6 +167,9 @@ impl Player for Real {
     }
     fn take_played(&mut self) -> Vec<(u64, Self::Reply)> {
         std::mem::take(&mut self.played)
+    }
+    fn has_played(&self, number: u64) -> bool {
+        self.answers.contains_key(&number)
     }
     fn has_answered(&self, number: u64, reply: &Self::Reply) -> bool {
         self.answers.get(&number) == Some(&bytes_of(reply))

@@ -1,4 +1,5 @@
 //! Nodes and an engine, to which faults are done as a seed has it, and what was promised to callers.
+use crate::liar::{put_number, spelled, Change, Liar, Played};
 use crate::player::Player;
 use histar_cluster::engine::{Answer, Request};
 use histar_cluster::memory::Store;
@@ -7,6 +8,12 @@ use std::collections::{BTreeMap, BTreeSet};
 
 /// The nodes that call.
 const NODES: [&str; 3] = ["a", "b", "c"];
+
+/// Calls with such numbers are made by a node that lies, as threads of others.
+const OTHERS: u64 = 1 << 41;
+
+/// The node that lies, as the last of all that threads belong to.
+const EVIL: usize = 3;
 
 /// Where nothing changes in so many turns, a call that was submitted is answered.
 const SHORT: usize = 8;
@@ -22,9 +29,6 @@ const AWAY: u64 = 20;
 
 /// The same of a node that has just begun an incarnation.
 const NEW: u64 = 250;
-
-/// Calls with such numbers are made by a node that lies, as threads of others.
-const LIES: u64 = 1 << 40;
 
 /// Numbers as a seed gives them.
 pub struct Random(u64);
@@ -95,6 +99,8 @@ pub struct Counts {
     pub unseen: u64,
     pub unknown: u64,
     pub refused: u64,
+    /// Nodes that have stopped at what a node changed that lies.
+    pub stopped: u64,
 }
 
 pub struct World<P: Player> {
@@ -107,8 +113,8 @@ pub struct World<P: Player> {
     held: BTreeMap<u64, Sent>,
     steps: u64,
     processes: Vec<Process<P>>,
-    /// The threads by which each node calls: its own, as far as it knows. The first is its own for good.
-    threads: [Vec<u64>; 3],
+    /// The threads by which each node calls, and the one that lies: its own, as far as it knows. The first is its own for good.
+    threads: [Vec<u64>; 4],
     starts: u64,
     calls: u64,
     tickets: u64,
@@ -116,6 +122,13 @@ pub struct World<P: Player> {
     /// What each call was answered where it was first played.
     played: BTreeMap<u64, P::Reply>,
     answered: Vec<(u64, P::Reply)>,
+    /// Of each call that was answered: the start of its node, and how many entries that had played by then.
+    tellers: Vec<(u64, u64)>,
+    /// Up to how many entries each start of a node has put what it had played, where others find it.
+    said: BTreeMap<u64, u64>,
+    /// Of a world in which a node changes what it has put, and how often it does.
+    liar: Option<Liar>,
+    lying: u64,
     never: BTreeSet<u64>,
     unseen: BTreeSet<u64>,
     is_quiet: bool,
@@ -147,6 +160,10 @@ impl<P: Player> World<P> {
             lies: 0,
             played: BTreeMap::new(),
             answered: Vec::new(),
+            tellers: Vec::new(),
+            said: BTreeMap::new(),
+            liar: (seed % 5 > 1).then(|| Liar::new(seed % 5 == 2)),
+            lying: [160, 40, 10][(seed / 5) as usize % 3],
             never: BTreeSet::new(),
             unseen: BTreeSet::new(),
             is_quiet: false,
@@ -158,7 +175,7 @@ impl<P: Player> World<P> {
         if seed % 4 > 0 {
             world.begin();
         } else {
-            world.threads = [(); 3].map(|()| vec![2; 2]);
+            world.threads = [(); 4].map(|()| vec![2; 2]);
             NODES.iter().for_each(|node| world.start(node));
         }
         world
@@ -168,7 +185,7 @@ impl<P: Player> World<P> {
     fn begin(&mut self) {
         self.is_quiet = true;
         self.start(NODES[0]);
-        self.submits(0, &[(2, 1); 3], None);
+        self.submits(0, &[(2, 1); 4], None);
         self.settle(SHORT);
         for (to, thread) in std::mem::take(&mut self.threads[0]).into_iter().enumerate() {
             self.submits(0, &[], Some((thread, to)));
@@ -239,7 +256,11 @@ impl<P: Player> World<P> {
 
     /// A fault of a process or of the engine, or a lie.
     fn hurt(&mut self, process: usize) {
-        if self.fault(60) {
+        if self.liar.is_some() && self.aimed(self.lying) {
+            self.tamper(process);
+        } else if self.processes[process].node.fault().is_some() && self.random.below(4) == 0 {
+            self.restart(process); // (as its operator does, once others have gone on)
+        } else if self.fault(60) {
             self.restart(process);
         } else if self.fault(80) {
             self.pause(process);
@@ -285,50 +306,108 @@ impl<P: Player> World<P> {
     /// Mostly the leases of a node end.
     fn end_leases(&mut self, process: usize) {
         if self.random.below(4) > 0 {
-            let fences = |end: &str| format!("/sim/fence/{}{end}", NODES[process]).into_bytes();
+            let node = NODES.get(process).copied().unwrap_or("d");
+            let fences = |end: &str| format!("/sim/fence/{node}{end}").into_bytes();
             self.store.end_leases_of(&fences("/"), &fences("0"));
         }
     }
 
     fn restart(&mut self, process: usize) {
-        self.processes[process] = self.process(NODES[process]);
+        self.processes[process] = self.process(NODES.get(process).copied().unwrap_or("d"));
         self.end_leases(process);
+    }
+
+    /// A node that lies changes what it has put, or puts more. Then a node may be started, which reads what is left.
+    fn tamper(&mut self, process: usize) {
+        let Some(played) = self.played_by(process) else { return };
+        let Some(liar) = &mut self.liar else { return };
+        let changes: Vec<Change> = liar.transaction::<P>(&mut self.random, self.threads[EVIL][0], &played, &self.store);
+        self.store.transact(&changes);
+        match self.random.below(6) {
+            0 => self.restart(process),
+            1 => self.stop(process, 400, true),
+            2 => self.store.forget(),
+            _ => {}
+        }
     }
 
     /// A node that lies puts an entry of other nodes' threads, bytes that are no entry, or a checkpoint that no other agrees on.
     fn lie(&mut self) {
         self.lies += 1;
-        let (lies, place) = (self.lies, self.store.revision);
+        let (lies, key) = (self.lies, format!("/sim/log/e/evil/{}.00/01", spelled(self.store.revision)));
         match self.random.below(3) {
             0 => {
-                let mut value = vec![1, 0];
-                P::put_call(&P::call(2, LIES + lies, 0), &mut value);
-                self.store.put(format!("/sim/log/e/evil/{}.00/01", spelled(place)).as_bytes(), &value, None);
+                let Some(played) = self.played_by(0) else { return };
+                let mut item = vec![0];
+                P::put_call(&P::call(2, OTHERS + lies, 0), &mut item);
+                self.store.put(key.as_bytes(), &crate::liar::entry(&played, &[0; 16], &item), None);
             }
-            1 => self.store.put(format!("/sim/log/e/evil/{}.00/01", spelled(place)).as_bytes(), b"\x01\x00???", None),
+            1 => self.store.put(key.as_bytes(), b"\x02\x00???", None),
             _ => self.forge(),
         }
     }
 
-    /// Puts a checkpoint at a later place, with another last reply.
+    /// Whether a node changes what it has put: then a node that read something else than another may stop, until it is told so it answers by that.
+    fn is_tampered_with(&self) -> bool {
+        self.liar.as_ref().is_some_and(|liar| !liar.is_mild)
+    }
+
+    /// A node that lies takes back an entry that others have played, and all nodes are started anew: once they have said what they had played, by
+    /// points or by entries, none goes on without it.
+    fn cut(&mut self) {
+        let going: Vec<usize> = (0..self.processes.len()).filter(|it| self.processes[*it].node.fault().is_none()).collect();
+        let Some(played) = going.first().and_then(|first| self.played_by(*first)) else { return };
+        for process in &going {
+            self.submits(*process, &[(self.threads[*process % EVIL][0], 0)], None);
+        }
+        let Some(liar) = &mut self.liar else { return };
+        let (key, value) = liar.next::<P>(&mut self.random, self.threads[EVIL][0], &played, self.store.revision);
+        self.store.transact(&[(key.clone(), value)]);
+        match self.random.below(2) {
+            0 => self.settle(LONG),
+            _ => {
+                self.hurries();
+                going.iter().for_each(|process| self.submits(*process, &[(self.threads[*process % EVIL][0], 0)], None));
+                self.hurries();
+            }
+        }
+        self.store.transact(&[(key, None)]);
+        self.counts.faults += 1;
+        (0..self.processes.len()).for_each(|process| self.restart(process));
+        self.settle(LONG);
+        self.holds();
+    }
+
+    /// What is on its way arrives, and is told, before a node looks around.
+    fn hurries(&mut self) {
+        for _ in 0..6 {
+            (0..20).for_each(|_| self.deliver());
+            for process in 0..self.processes.len() {
+                (0..20).for_each(|_| self.report(process));
+                self.turn(process);
+            }
+        }
+    }
+
+    /// What a node has played.
+    fn played_by(&self, process: usize) -> Option<Played> {
+        let status = self.processes[process].node.status()?;
+        Some(Played { entries: status.entries, digest: status.digest })
+    }
+
+    /// Puts a checkpoint after more entries, after which no honest node compares states, with another last reply.
     fn forge(&mut self) {
         let states = self.store.range(b"/sim/state/", b"/sim/state0", self.store.revision);
         let Some(state) = states.iter().rev().find(|pair| !pair.key.starts_with(b"/sim/state/evil")) else { return };
-        self.store.put(b"/sim/evil", b"", None); // (a place that no entry has: of another's place no node is in doubt)
-        let place = self.store.revision;
-        let rest = 1 + state.value[1..].iter().position(|byte| byte & 128 == 0).expect("a place") + 1;
-        let mut value = vec![1];
-        let mut left = place;
-        while left >= 128 {
-            value.push(left as u8 | 128);
-            left >>= 7;
-        }
-        value.push(left as u8);
+        let entries = place_in(&state.key).expect("a number of entries") + 3;
+        let rest = 1 + state.value[1..].iter().position(|byte| byte & 128 == 0).expect("a number") + 1;
+        let mut value = vec![2];
+        put_number(&mut value, entries);
         value.extend_from_slice(&state.value[rest..]);
         *value.last_mut().expect("a state") ^= 1;
         let digest = crate::digest(&value);
-        self.store.put(format!("/sim/state/evil/{}", spelled(place)).as_bytes(), &value, None);
-        self.store.put(format!("/sim/log/a/evil/{}", spelled(place)).as_bytes(), &digest, None);
+        self.store.put(format!("/sim/state/evil/{}", spelled(entries)).as_bytes(), &value, None);
+        self.store.put(format!("/sim/log/a/evil/{}", spelled(entries)).as_bytes(), &digest, None);
     }
 
     /// A request arrives at the engine, and is answered.
@@ -350,6 +429,7 @@ impl<P: Player> World<P> {
             return;
         }
         let page = 1 + self.random.below(6) as usize;
+        self.says(&sent);
         let answer = self.store.act(&sent.request, page);
         if let Request::Watch { from, to, after } = &sent.request {
             let watch = Watch { number: sent.number, from: from.clone(), to: to.clone(), after: *after };
@@ -367,6 +447,18 @@ impl<P: Player> World<P> {
         if self.random.below(2) == 0 {
             self.turn(process);
         }
+    }
+
+    /// An entry and a point say up to how many entries their node had played.
+    fn says(&mut self, sent: &Sent) {
+        let Request::Put { key, value, .. } = &sent.request else { return };
+        let number = match (key.starts_with(b"/sim/log/e/"), key.starts_with(b"/sim/log/s/")) {
+            (true, _) => &value[1..],
+            (_, true) => &value[..],
+            _ => return,
+        };
+        let said = self.said.entry(sent.start).or_default();
+        *said = number_in(number).max(*said);
     }
 
     fn running(&self, sent: &Sent) -> Option<usize> {
@@ -444,13 +536,17 @@ impl<P: Player> World<P> {
     fn look(&mut self, process: usize, before: u64) {
         let played = self.processes[process].node.view().map(Player::take_played);
         for (number, reply) in played.unwrap_or_default() {
-            if number >= LIES {
+            if number >= OTHERS {
                 self.breaks("a call of another node's thread was played");
+            }
+            let first = self.played.entry(number).or_insert(reply.clone()).clone();
+            if self.is_tampered_with() {
+                continue; // (until a node that read something else has stopped)
             }
             if self.never.contains(&number) {
                 self.breaks("a call was played that was told never to be made");
             }
-            if *self.played.entry(number).or_insert(reply.clone()) != reply {
+            if first != reply {
                 self.breaks("a call was answered in two ways");
             }
         }
@@ -463,7 +559,10 @@ impl<P: Player> World<P> {
             }
             let is_right = match fault {
                 Fault::OtherEngine => self.store.id != 1,
-                Fault::NoCheckpoint => self.lacks_checkpoints,
+                Fault::NoCheckpoint if self.lacks_checkpoints => true,
+                Fault::NoCheckpoint | Fault::Gap { .. } | Fault::Differs { .. } | Fault::UnknownRules { .. } => {
+                    self.is_tampered_with()
+                }
                 _ => false,
             };
             if !is_right {
@@ -501,19 +600,22 @@ impl<P: Player> World<P> {
                     self.breaks("a call was answered by an engine that lost calls");
                 }
                 self.counts.answered += 1;
+                let it = &self.processes[process];
+                let teller = (it.start, it.node.status().map_or(u64::MAX, |status| status.entries));
                 let already = self.answered.len();
                 if let (Some(Told::Done), Some((thread, to))) = (told.last(), handed) {
-                    self.threads[process].retain(|it| *it != thread || *it == 2);
+                    self.threads[process % EVIL].retain(|it| *it != thread || *it == 2);
                     self.threads[to].push(thread);
                 }
                 for (number, told) in numbers.iter().zip(told) {
                     match told {
                         Told::Reply(reply) => {
-                            self.threads[process].extend(P::made_by(&reply));
-                            if self.played.get(number) != Some(&reply) {
+                            self.threads[process % EVIL].extend(P::made_by(&reply));
+                            if !self.is_tampered_with() && self.played.get(number) != Some(&reply) {
                                 self.breaks("a caller was told another reply");
                             }
                             self.answered.push((*number, reply));
+                            self.tellers.push(teller);
                         }
                         Told::OtherNode => self.counts.refused += 1,
                         Told::Done => {}
@@ -529,7 +631,7 @@ impl<P: Player> World<P> {
             }
             Receipt::NeverMade => {
                 self.counts.never += 1;
-                if numbers.iter().any(|number| self.played.contains_key(number)) {
+                if !self.is_tampered_with() && numbers.iter().any(|number| self.played.contains_key(number)) {
                     self.breaks("a call was told never to be made, and was played");
                 }
                 self.never.extend(numbers);
@@ -545,6 +647,9 @@ impl<P: Player> World<P> {
     /// A node sees the last of the first so many answered calls.
     fn sees(&mut self, process: usize, count: usize) {
         let Some((number, reply)) = count.checked_sub(1).map(|last| self.answered[last].clone()) else { return };
+        if self.is_tampered_with() {
+            return; // (each node reads on until it has stopped)
+        }
         let it = &mut self.processes[process];
         let seen = it.node.view().map(|it| it.has_answered(number, &reply));
         if seen == Some(false) || (process == 0 && it.reads().is_some_and(|it| !it.has_answered(number, &reply))) {
@@ -569,7 +674,8 @@ impl<P: Player> World<P> {
         let numbers: Vec<u64> = (first..=self.calls).collect();
         let call = |(number, (thread, deed)): (&u64, &(u64, u64))| Item::Call(P::call(*thread, *number, *deed));
         let mut items: Vec<_> = numbers.iter().zip(calls).map(call).collect();
-        items.extend(handed.map(|(thread, to)| Item::HandOver { thread, to: name(NODES[to]) }));
+        let node = |to: usize| name(NODES.get(to).copied().unwrap_or("evil"));
+        items.extend(handed.map(|(thread, to)| Item::HandOver { thread, to: node(to) }));
         let (ticket, answered) = (self.tickets, self.answered.len());
         let it = &mut self.processes[process];
         if it.node.fault().is_none() {
@@ -609,6 +715,9 @@ impl<P: Player> World<P> {
         if self.broken.is_some() {
             return;
         }
+        if self.is_tampered_with() {
+            return self.cut();
+        }
         match self.random.below(3) {
             0 => self.lose_disks(),
             1 => self.break_checkpoints(),
@@ -625,12 +734,17 @@ impl<P: Player> World<P> {
         if self.broken.is_some() {
             return;
         }
-        if self.processes.iter().any(|process| !process.waiting.is_empty()) {
+        self.counts.stopped += self.processes.iter().filter(|it| it.node.fault().is_some()).count() as u64;
+        let waits = |it: &Process<P>| it.node.fault().is_none() && !it.waiting.is_empty();
+        if self.processes.iter().any(waits) {
             self.breaks("a caller is told nothing");
         }
-        let states = self.states();
-        if states.iter().any(|state| *state != states[0]) {
+        let states: Vec<_> = self.states().into_iter().flatten().collect();
+        if states.iter().any(|state| *state != states[0]) || (!self.is_tampered_with() && states.len() < 4) {
             self.breaks("nodes differ at the end");
+        }
+        if self.is_tampered_with() {
+            return self.holds();
         }
         if self.answered.iter().any(|(number, _)| !self.played.contains_key(number)) {
             self.breaks("a call is lost that was answered");
@@ -642,6 +756,23 @@ impl<P: Player> World<P> {
             .any(|number| !self.played.contains_key(number) && !self.store.has_put(&number.to_be_bytes()))
         {
             self.breaks("a call is lost that was told to be made");
+        }
+    }
+
+    /// What was told holds at each node that goes on, whatever a node that lies has changed, once whoever told it has said what it had played.
+    fn holds(&mut self) {
+        let said = |(start, entries): &(u64, u64)| self.said.get(start).is_some_and(|said| said >= entries);
+        let sure = self.answered.iter().zip(&self.tellers).filter(|(_, teller)| said(teller));
+        let sure: Vec<(u64, P::Reply)> = sure.map(|(answer, _)| answer.clone()).collect();
+        let mut broken = false;
+        for it in &mut self.processes {
+            if let Some(machine) = it.node.view() {
+                broken |= sure.iter().any(|(number, reply)| !machine.has_answered(*number, reply));
+                broken |= self.never.iter().any(|number| machine.has_played(*number));
+            }
+        }
+        if broken {
+            self.breaks("a call was told that is another one by what a node changed that lies");
         }
     }
 
@@ -742,8 +873,8 @@ fn has_gone_on(store: &Store, node: &str, place: u64) -> bool {
     places(b"/sim/state/", b"/sim/state0").any(is_agreed) || NODES.iter().all(has_dropped)
 }
 
-/// A number as keys spell it.
-fn spelled(number: u64) -> String {
-    let digits = format!("{number:x}");
-    format!("{:x}{digits}", digits.len() - 1)
+/// The number that a value begins with.
+fn number_in(bytes: &[u8]) -> u64 {
+    let len = bytes.iter().position(|byte| byte & 128 == 0).expect("a number") + 1;
+    bytes[..len].iter().rev().fold(0, |number, byte| number << 7 | u64::from(byte & 127))
 }
