@@ -4,7 +4,7 @@ mod model;
 
 use histar_cluster::engine::{Answer, Answers, Engine, Request};
 use histar_cluster::memory::{Memory, Store};
-use histar_cluster::{Fault, Item, Name, Node, Options, Output, Receipt, Running, Told, Uncalled};
+use histar_cluster::{beginning, void, Fault, Item, Name, Node, Options, Output, Receipt, Running, Told, Uncalled};
 use model::{Call, Model, Reply};
 use std::collections::{BTreeSet, VecDeque};
 use std::sync::atomic::{AtomicBool, AtomicU64, Ordering};
@@ -47,11 +47,16 @@ fn told(node: &Running<Model>, items: &[Item<Call>]) -> Vec<Told<Reply>> {
 
 /// Waits until a node has stopped.
 fn stops(node: &Running<Model>) -> Fault {
-    loop {
-        if let Some(fault) = node.fault() {
-            return fault;
-        }
-        std::thread::yield_now();
+    until(|| node.fault().is_some());
+    node.fault().expect("a fault")
+}
+
+/// Waits until something holds, for a minute at most.
+fn until(mut holds: impl FnMut() -> bool) {
+    let end = Instant::now() + Duration::from_secs(60);
+    while !holds() {
+        assert!(Instant::now() < end, "it does not come");
+        std::thread::sleep(Duration::from_millis(5));
     }
 }
 
@@ -431,4 +436,109 @@ fn an_entry_that_is_deleted_or_changed_is_told_of() {
         let east = open(&store, "east");
         are_alike_or_stop(&[&north, &south, &east]);
     }
+}
+
+#[test]
+fn what_the_cluster_began_with_is_not_changed() {
+    let (key, value) = beginning::<Model>(&options("south"));
+    for changed in [Some(value), Some(b"\x02".to_vec()), None] {
+        let store = Memory::new();
+        let (north, south) = north_and_south(&store);
+        south.latest().expect("a note");
+        with(&store, |store| store.transact(&[(key.clone(), changed)]));
+        assert_eq!([stops(&north), stops(&south)], [Fault::OtherBoot, Fault::OtherBoot]);
+    }
+}
+
+#[test]
+fn a_node_takes_the_cluster_that_an_operator_began() {
+    let store = Memory::new();
+    let (key, value) = beginning::<Model>(&options("south"));
+    with(&store, |store| store.put(&key, &value, None));
+    let (north, south) = (open(&store, "north"), open(&store, "south"));
+    assert_eq!(told(&north, &[call(2, 1, 0)]), [Told::OtherNode]);
+    assert!(matches!(told(&south, &[call(2, 1, 0)])[0], Told::Reply(_)));
+}
+
+#[test]
+fn a_cluster_of_an_older_format_is_refused() {
+    let store = Memory::new();
+    let (key, mut value) = beginning::<Model>(&options("north"));
+    value[0] = 1;
+    with(&store, |store| store.put(&key, &value, None));
+    let fault = stops(&open(&store, "north"));
+    assert_eq!(fault, Fault::OtherFormat(1));
+    assert_eq!(fault.to_string(), "the cluster was begun in format 1, which this node does not know");
+}
+
+/// The place at which a node has stopped.
+fn stopped_at(node: &Running<Model>) -> u64 {
+    match stops(node) {
+        Fault::Gap { place, .. } | Fault::UnknownRules { place, .. } | Fault::Differs { place, .. } => place,
+        fault => panic!("{fault}"),
+    }
+}
+
+#[test]
+fn a_cluster_goes_on_once_what_stopped_it_is_void() {
+    let gap = |store: &Memory| with(store, |store| store.put(b"/c/log/e/evil/02.00/02", b"x", None));
+    let rules = |store: &Memory| {
+        let evil = open(store, "evil");
+        drop(evil.submit(&[Item::Rules(99)]).expect("a node that runs"));
+        until(|| store.store().has_put(&[2, 99]));
+    };
+    let differs = |store: &Memory| {
+        let value = [&[2, 0][..], &[7; 16]].concat();
+        with(store, |store| store.put(b"/c/log/e/evil/02.00/01", &value, None));
+    };
+    for stop in [&gap as &dyn Fn(&Memory), &rules, &differs] {
+        let store = Memory::new();
+        let (north, south) = north_and_south(&store);
+        let first = told(&north, &[call(2, 1, 0)]);
+        stop(&store);
+        let place = stopped_at(&north);
+        assert_eq!(stopped_at(&south), place);
+        assert_eq!(stopped_at(&open(&store, "north")), place);
+        with(&store, |store| store.put(&void(&name("c"), place), b"", None));
+        let (north, south) = (open(&store, "north"), open(&store, "south"));
+        told(&north, &[call(2, 2, 0)]);
+        south.reaches(north.latest().expect("a note")).expect("a node that runs");
+        for node in [&north, &south] {
+            let reply = node.read(|model| model.replies.get(&1).cloned()).expect("a machine");
+            assert_eq!(reply.map(Told::Reply).as_slice(), &first[..]);
+        }
+        // (what a node has played is void for nobody)
+        let played = north.latest().expect("a note").place;
+        with(&store, |store| store.put(&void(&name("c"), played), b"", None));
+        assert_eq!([stops(&north), stops(&south)], [Fault::OtherBoot, Fault::OtherBoot]);
+    }
+}
+
+#[test]
+fn a_cluster_in_which_nothing_happens_puts_nothing() {
+    let store = Memory::new();
+    let (north, south) = north_and_south(&store);
+    told(&north, &[call(2, 1, 0)]);
+    south.latest().expect("a note");
+    // (a node looks around each second)
+    let mut before = 0;
+    until(|| {
+        std::thread::sleep(Duration::from_secs(4));
+        let revision = store.store().revision;
+        std::mem::replace(&mut before, revision) == revision
+    });
+}
+
+#[test]
+fn long_entries_are_marked_sooner() {
+    let store = Memory::new();
+    let seldom = Options { interval: 1 << 40, ..options("north") };
+    let north: Running<Model> = Running::open(store.clone(), seldom);
+    told(&north, &[call(2, 1, 0)]);
+    for number in 1..=16 {
+        let spelled = if number < 16 { format!("0{number:x}") } else { format!("1{number:x}") };
+        with(&store, |store| store.put(format!("/c/log/e/evil/02.00/{spelled}").as_bytes(), &vec![7; 1 << 20], None));
+    }
+    told(&north, &[call(2, 2, 0)]);
+    until(|| !store.store().range(b"/c/log/a/", b"/c/log/a0", u64::MAX).is_empty());
 }

@@ -19,7 +19,7 @@ use grpc::Channel;
 use histar::trusted::{session_of, Record, Thread};
 use histar::{label, Call, Entry, Kernel, Limits, Object, Reply};
 use histar_cluster::memory::Memory;
-use histar_cluster::{limits, Item, Name, Options, Receipt, Running, Told};
+use histar_cluster::{limits, Item, Name, Options, Receipt, Running, Told, View};
 use histar_etcd::Etcd;
 use std::borrow::Cow;
 use std::sync::atomic::{AtomicU64, Ordering};
@@ -73,7 +73,7 @@ fn puts(members: &[String], watchers: u64, callers: u64, time: Duration) {
                         }
                         let key = Bytes::from(format!("/bare-{start}/{caller:08}/{at:08}"));
                         let put = PutRequest { key, value: Bytes::from(vec![7; BYTES]), lease: 0 };
-                        let _: Done = channel.call("/etcdserverpb.KV/Put", &put).await.expect("a put");
+                        let _: Done = channel.call("/etcdserverpb.KV/Put", &put, usize::MAX).await.expect("a put");
                         done.fetch_add(1, Ordering::Relaxed);
                     }
                 })
@@ -189,22 +189,22 @@ fn behind(members: &[String], calls: u64) {
 type Read<'r> = Box<dyn FnMut() + Send + 'r>;
 
 fn reading(kind: &str, node: &Arc<Running<Kernel>>, entry: Entry) -> Read<'static> {
-    let read = move |kernel: &Kernel| {
-        assert!(session_of(kernel, Thread::BOOT).segment_read(entry, 0, 64).is_ok());
+    let read = move |kernel: View<'_>| {
+        assert!(kernel.of(Thread::BOOT).segment_read(entry, 0, 64).is_ok());
     };
     match kind {
         "kernel" => {
             let alone = node.read(|kernel| Kernel::open_at(kernel.checkpoint().expect("a text"))).expect("a machine");
             let alone = alone.expect("a kernel");
-            Box::new(move || read(&alone))
+            Box::new(move || assert!(session_of(&alone, Thread::BOOT).segment_read(entry, 0, 64).is_ok()))
         }
         "node" => {
             let node = node.clone();
-            Box::new(move || node.read(|kernel| read(kernel)).expect("a machine"))
+            Box::new(move || node.read(read).expect("a machine"))
         }
         "reader" => {
             let mut reader = node.reader().expect("a reader");
-            Box::new(move || reader.read(|kernel| read(kernel)).expect("a machine"))
+            Box::new(move || reader.read(read).expect("a machine"))
         }
         _ => panic!("other words"),
     }

@@ -17,6 +17,8 @@ pub enum Fault {
     Lost,
     /// The engine answered by a status other than 0.
     Status(u32, String),
+    /// The answer has more bytes than were asked for.
+    TooLong,
 }
 
 impl<E: std::error::Error> From<E> for Fault {
@@ -42,15 +44,15 @@ fn frame<M: Message>(message: &M) -> Bytes {
     out.freeze()
 }
 
+/// The bytes of a message of which the beginning has arrived.
+fn length(buffer: &BytesMut) -> Option<usize> {
+    let len = buffer.get(1..5)?.try_into().ok()?;
+    Some(u32::from_be_bytes(len) as usize)
+}
+
 /// Takes a whole message from what has arrived.
 fn message<M: Message + Default>(buffer: &mut BytesMut) -> Result<Option<M>, Fault> {
-    if buffer.len() < 5 {
-        return Ok(None);
-    }
-    let len = u32::from_be_bytes([buffer[1], buffer[2], buffer[3], buffer[4]]) as usize;
-    if buffer.len() < 5 + len {
-        return Ok(None);
-    }
+    let Some(len) = length(buffer).filter(|len| buffer.len() >= 5 + len) else { return Ok(None) };
     buffer.advance(5);
     Ok(Some(M::decode(buffer.split_to(len).freeze())?))
 }
@@ -110,15 +112,24 @@ impl Channel {
         Ok(send.send_request(request, false)?)
     }
 
-    /// A call with one answer.
-    pub async fn call<Q: Message, R: Message + Default>(&self, path: &str, question: &Q) -> Result<R, Fault> {
+    /// A call with one answer, of so many bytes at most.
+    pub async fn call<Q: Message, R: Message + Default>(
+        &self,
+        path: &str,
+        question: &Q,
+        most: usize,
+    ) -> Result<R, Fault> {
         let (response, mut stream) = self.open(path).await?;
         stream.send_data(frame(question), true)?;
         let response = response.await?;
         status(response.headers())?;
         let mut body = response.into_body();
         let mut buffer = BytesMut::new();
-        while more(&mut body, &mut buffer).await? {}
+        while more(&mut body, &mut buffer).await? {
+            if length(&buffer).is_some_and(|len| len > most) {
+                return Err(Fault::TooLong);
+            }
+        }
         if let Some(trailers) = body.trailers().await? {
             status(&trailers)?;
         }

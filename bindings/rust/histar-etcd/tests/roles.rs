@@ -3,7 +3,7 @@
 #[path = "../../histar-cluster/tests/simulation/model.rs"]
 mod model;
 
-use histar_cluster::{Item, Name, Options, Receipt, Running};
+use histar_cluster::{beginning, Item, Name, Options, Receipt, Running};
 use histar_etcd::{tls, Etcd, Files};
 use model::{Call, Model};
 use std::path::{Path, PathBuf};
@@ -15,7 +15,7 @@ use std::time::{Duration, Instant};
 const SETUP: &str = r#"
 set -e
 openssl req -x509 -newkey rsa:2048 -nodes -keyout ca.key -out ca.pem -subj /CN=ca -days 2 2>/dev/null
-for n in member root north south east west; do
+for n in member root operator north south east west; do
     openssl req -newkey rsa:2048 -nodes -keyout $n.key -out $n.csr -subj /CN=$n 2>/dev/null
     printf 'subjectAltName=DNS:localhost,IP:127.0.0.1\n' > ext
     openssl x509 -req -in $n.csr -CA ca.pem -CAkey ca.key -CAcreateserial -out $n.pem -days 2 -extfile ext 2>/dev/null
@@ -82,14 +82,15 @@ impl Tls {
         self.member = Some(command.spawn().expect("etcd"));
     }
 
-    fn open(&self, node: &str, user: &str) -> Running<Model> {
+    fn etcd(&self, user: &str) -> Etcd {
         let file = |end: &str| self.folder.join(format!("{user}.{end}"));
         let files = Files { authority: self.folder.join("ca.pem"), certificate: file("pem"), key: file("key") };
-        let name = |text| Name::new(text).expect("a name");
-        let options =
-            Options { cluster: name("files"), node: name(node), limits: Vec::new(), lanes: 1, interval: 50, any: 1 };
         let members = vec![format!("localhost:{}", self.port)];
-        Running::open(Etcd { members, tls: Some(tls(&files).expect("files")), lease: 5 }, options)
+        Etcd { members, tls: Some(tls(&files).expect("files")), lease: 5 }
+    }
+
+    fn open(&self, node: &str, user: &str) -> Running<Model> {
+        Running::open(self.etcd(user), options(node))
     }
 }
 
@@ -110,7 +111,18 @@ fn with_roles(port: u16) -> Option<Tls> {
     it.begin();
     std::thread::sleep(Duration::from_secs(2));
     assert!(it.shell(&documented(), "root"), "the commands of docs/CLUSTER.md");
+    let operator = it.etcd("operator");
+    let begins = |node: &str| {
+        let (key, value) = beginning::<Model>(&options(node));
+        operator.put_new(&key, &value)
+    };
+    assert_eq!([begins("north"), begins("south")], [Ok(true), Ok(false)]);
     Some(it)
+}
+
+fn options(node: &str) -> Options {
+    let name = |text| Name::new(text).expect("a name");
+    Options { cluster: name("files"), node: name(node), limits: Vec::new(), lanes: 1, interval: 50, any: 1 }
 }
 
 /// Nodes that have seen all that any of them has put are in one state, or one of them has stopped.
@@ -174,6 +186,10 @@ fn a_role_holds_a_node_to_its_own_keys() {
         "del --prefix /files/log/e/north/",
         "del --prefix /files/state/",
         "put /files/fence/north/9 x",
+        "put /files/log/s/north/ x",
+        "put /files/boot x",
+        "put /files/boot/05 x",
+        "del /files/boot",
     ] {
         assert!(!it.shell(&format!("etcdctl {wrong}"), "south"), "{wrong}");
     }

@@ -1,7 +1,7 @@
 //! Nodes and an engine, to which faults are done as a seed has it, and what was promised to callers.
 use crate::liar::{put_number, spelled, Change, Liar, Played};
 use crate::player::Player;
-use histar_cluster::engine::{Answer, Request};
+use histar_cluster::engine::{Answer, Pair, Request};
 use histar_cluster::memory::Store;
 use histar_cluster::{Fault, Item, Name, Node, Options, Output, Receipt, Replica, Start, Told, LOOK};
 use std::collections::{BTreeMap, BTreeSet};
@@ -163,7 +163,7 @@ impl<P: Player> World<P> {
             tellers: Vec::new(),
             said: BTreeMap::new(),
             liar: (seed % 5 > 1).then(|| Liar::new(seed % 5 == 2)),
-            lying: [160, 40, 10][(seed / 5) as usize % 3],
+            lying: [120, 20, 0][(seed / 5) as usize % 3],
             never: BTreeSet::new(),
             unseen: BTreeSet::new(),
             is_quiet: false,
@@ -352,6 +352,24 @@ impl<P: Player> World<P> {
         self.liar.as_ref().is_some_and(|liar| !liar.is_mild)
     }
 
+    /// A node that lies has a fence without a lease, and says that it has played nothing: the log is dropped behind four marks all the same.
+    fn keep_back(&mut self) {
+        self.store.put(b"/sim/fence/evil/1", &[0], None);
+        for at in 0..48 {
+            let process = at % 3;
+            self.submits(process, &[(self.threads[process][0], 0)], None);
+            self.settle(SHORT);
+        }
+        self.settle(LONG);
+        let of = |node: &str| {
+            let (from, to) = (format!("/sim/log/e/{node}/"), format!("/sim/log/e/{node}0"));
+            self.store.range(from.as_bytes(), to.as_bytes(), self.store.revision).len()
+        };
+        if NODES.into_iter().map(of).sum::<usize>() > 44 {
+            self.breaks("a node that stands still keeps the log");
+        }
+    }
+
     /// A node that lies takes back an entry that others have played, and all nodes are started anew: once they have said what they had played, by
     /// points or by entries, none goes on without it.
     fn cut(&mut self) {
@@ -363,19 +381,32 @@ impl<P: Player> World<P> {
         let Some(liar) = &mut self.liar else { return };
         let (key, value) = liar.next::<P>(&mut self.random, self.threads[EVIL][0], &played, self.store.revision);
         self.store.transact(&[(key.clone(), value)]);
-        match self.random.below(2) {
-            0 => self.settle(LONG),
-            _ => {
-                self.hurries();
-                going.iter().for_each(|process| self.submits(*process, &[(self.threads[*process % EVIL][0], 0)], None));
-                self.hurries();
-            }
-        }
+        let way = self.random.below(3);
+        let stays = if way == 0 {
+            // (what it answered no other has heard of, and it goes on)
+            self.hurries();
+            self.says_all(&going[..1]);
+            going[..1].to_vec()
+        } else if way == 1 {
+            self.settle(LONG);
+            self.says_all(&going);
+            Vec::new()
+        } else {
+            self.hurries();
+            going.iter().for_each(|process| self.submits(*process, &[(self.threads[*process % EVIL][0], 0)], None));
+            self.hurries();
+            Vec::new()
+        };
         self.store.transact(&[(key, None)]);
         self.counts.faults += 1;
-        (0..self.processes.len()).for_each(|process| self.restart(process));
+        (0..self.processes.len()).filter(|it| !stays.contains(it)).for_each(|process| self.restart(process));
         self.settle(LONG);
         self.holds();
+    }
+
+    /// Nodes have said, or will say, all that they have played.
+    fn says_all(&mut self, processes: &[usize]) {
+        self.said.extend(processes.iter().map(|process| (self.processes[*process].start, u64::MAX)));
     }
 
     /// What is on its way arrives, and is told, before a node looks around.
@@ -421,7 +452,7 @@ impl<P: Player> World<P> {
         if self.fault(80) {
             return self.told(&sent, Answer::Lost);
         }
-        if let Some(place) = place_of_mark(&sent.request).filter(|_| sent.process < 3 && self.aimed(100)) {
+        if let Some(place) = place_of_mark(&self.store, &sent.request).filter(|_| sent.process < 3 && self.aimed(100)) {
             // (it dies before its checkpoint or its agreement is put, and is started anew after some time)
             self.restart(sent.process);
             self.processes[sent.process].left = Some(place);
@@ -715,8 +746,10 @@ impl<P: Player> World<P> {
         if self.broken.is_some() {
             return;
         }
-        if self.is_tampered_with() {
-            return self.cut();
+        match self.liar {
+            Some(Liar { is_mild: true, .. }) => self.keep_back(),
+            Some(_) => return self.cut(),
+            None => {}
         }
         match self.random.below(3) {
             0 => self.lose_disks(),
@@ -820,6 +853,11 @@ impl<P: Player> World<P> {
             pair.value[at] ^= 1;
             self.store.put(&pair.key, &pair.value, None);
         }
+        if self.random.below(2) == 0 {
+            // (and with no entry at all none is missing between two others)
+            let (from, to) = (b"/sim/log/e/".to_vec(), b"/sim/log/e0".to_vec());
+            self.store.act(&Request::Drop { from, to }, 1);
+        }
         self.lacks_checkpoints = true;
         self.start("e");
         self.settle(LONG);
@@ -849,14 +887,27 @@ impl<P: Player> World<P> {
 }
 
 /// The place of a mark whose checkpoint or agreement is put.
-fn place_of_mark(request: &Request) -> Option<u64> {
+fn place_of_mark(store: &Store, request: &Request) -> Option<u64> {
     match request {
-        Request::Put { key, .. } if key.starts_with(b"/sim/state/") || key.starts_with(b"/sim/log/a/") => place_in(key),
+        Request::Put { key, value, .. } if key.starts_with(b"/sim/state/") => Some(place_of(value)),
+        Request::Put { key, .. } if key.starts_with(b"/sim/log/a/") => {
+            let entries = place_in(key)?;
+            let states = store.range(b"/sim/state/", b"/sim/state0", store.revision);
+            let found = states.iter().find(|pair| place_in(&pair.key) == Some(entries));
+            Some(found.map_or(store.revision, |pair| place_of(&pair.value)))
+        }
         _ => None,
     }
 }
 
-/// The place that a key ends with.
+/// The place of a checkpoint.
+fn place_of(checkpoint: &[u8]) -> u64 {
+    let rest = &checkpoint[1..];
+    let entries = rest.iter().position(|byte| byte & 128 == 0).expect("a number") + 1;
+    number_in(&rest[entries..])
+}
+
+/// The place or the number of entries that a key ends with.
 fn place_in(key: &[u8]) -> Option<u64> {
     let (_, text) = std::str::from_utf8(key).ok()?.rsplit_once('/')?;
     u64::from_str_radix(text.get(1..)?, 16).ok()
@@ -865,12 +916,12 @@ fn place_in(key: &[u8]) -> Option<u64> {
 /// Whether two nodes agree on a checkpoint of a later place, or nodes but this one have dropped their entries up to it.
 fn has_gone_on(store: &Store, node: &str, place: u64) -> bool {
     let range = |from: &[u8], to: &[u8]| store.range(from, to, store.revision).into_iter();
-    let places = |from, to| range(from, to).filter_map(|pair| place_in(&pair.key)).filter(|it| *it > place);
-    let agreed: Vec<u64> = places(b"/sim/log/a/", b"/sim/log/a0").collect();
-    let is_agreed = |place: u64| agreed.iter().filter(|it| **it == place).count() >= 2;
+    let agreed: Vec<u64> = range(b"/sim/log/a/", b"/sim/log/a0").filter_map(|pair| place_in(&pair.key)).collect();
+    let is_agreed = |entries: u64| agreed.iter().filter(|it| **it == entries).count() >= 2;
+    let is_later = |pair: Pair| place_of(&pair.value) > place && place_in(&pair.key).is_some_and(is_agreed);
     let entries = |of: &str| range(format!("/sim/log/e/{of}/").as_bytes(), format!("/sim/log/e/{of}0").as_bytes());
     let has_dropped = |of: &&str| *of == node || entries(of).all(|pair| pair.created > place);
-    places(b"/sim/state/", b"/sim/state0").any(is_agreed) || NODES.iter().all(has_dropped)
+    range(b"/sim/state/", b"/sim/state0").any(is_later) || NODES.iter().all(has_dropped)
 }
 
 /// The number that a value begins with.
