@@ -84,11 +84,17 @@ pub enum Fault {
 impl fmt::Display for Fault {
     fn fmt(&self, f: &mut fmt::Formatter<'_>) -> fmt::Result {
         match self {
-            Fault::OtherBoot => f.write_str("the cluster was begun with other limits, or what it began with was changed"),
-            Fault::OtherFormat(format) => write!(f, "the cluster was begun in format {format}, which this node does not know"),
+            Fault::OtherBoot => {
+                f.write_str("the cluster was begun with other limits, or what it began with was changed")
+            }
+            Fault::OtherFormat(format) => {
+                write!(f, "the cluster was begun in format {format}, which this node does not know")
+            }
             Fault::OtherEngine => f.write_str("the engine is another one than at the start"),
             Fault::NoMachine(why) => write!(f, "no kernel was booted: {why}"),
-            Fault::Gap { node, place } => write!(f, "the log has a gap: an entry of node {node} is missing at place {place}"),
+            Fault::Gap { node, place } => {
+                write!(f, "the log has a gap: an entry of node {node} is missing at place {place}")
+            }
             Fault::UnknownRules { rules, place } => {
                 write!(f, "the log changes to rules {rules} at place {place}, which this node does not know")
             }

@@ -167,7 +167,9 @@ impl<M: Machine> State<M> {
                 Ok(digest) => Ok(Step::Agreed { node, entries, digest }),
                 Err(_) => Ok(Step::Nothing),
             },
-            Some(LogKey::Seen(node)) => Ok(Point::read(value).map_or(Step::Nothing, |point| Step::Seen { node, point })),
+            Some(LogKey::Seen(node)) => {
+                Ok(Point::read(value).map_or(Step::Nothing, |point| Step::Seen { node, point }))
+            }
             // (an incarnation is older than its entries, and than its closing)
             Some(LogKey::Entry(Lane { of, .. }, _)) if of.number >= place => Ok(Step::Nothing),
             Some(LogKey::Entry(Lane { of, .. }, _)) if self.voids.contains(&place) => {

@@ -400,7 +400,8 @@ fn are_alike_or_stop(nodes: &[&Running<Model>]) {
         std::thread::sleep(Duration::from_millis(20));
     }
     let notes: Vec<_> = nodes.iter().map(|node| node.latest()).collect();
-    if let Some(last) = notes.into_iter().collect::<Result<Vec<_>, _>>().ok().and_then(|notes| notes.into_iter().max()) {
+    if let Some(last) = notes.into_iter().collect::<Result<Vec<_>, _>>().ok().and_then(|notes| notes.into_iter().max())
+    {
         if nodes.iter().all(|node| node.reaches(last).is_ok()) {
             let states: Vec<_> = nodes.iter().map(|it| it.status().map(|it| (it.entries, it.digest))).collect();
             assert!(states.iter().all(|state| *state == states[0]), "{states:?}");

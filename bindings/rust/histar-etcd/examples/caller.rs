@@ -165,7 +165,8 @@ fn run(words: &[String]) {
     let out = Arc::new(File::options().create(true).append(true).open(file).expect("a file"));
     let end = Instant::now() + Duration::from_secs(number(seconds));
     let start = SystemTime::now().duration_since(UNIX_EPOCH).expect("a time after 1970").as_millis() as u64;
-    let calls = Arc::new(AtomicU64::new(start << 20));
+    // (nodes that start at once have other numbers)
+    let calls = Arc::new(AtomicU64::new(start << 24 | (thread % 16) << 20));
     let writes = |out: &File, line: &str| {
         let mut out = out;
         out.write_all(line.as_bytes()).expect("a file that can be written");

@@ -76,7 +76,13 @@ impl Pages {
                 page.encoded_len()
             }
         };
-        let next = if size < BYTES / 4 { limit * 2 } else if size > BYTES / 2 { limit / 2 } else { limit };
+        let next = if size < BYTES / 4 {
+            limit * 2
+        } else if size > BYTES / 2 {
+            limit / 2
+        } else {
+            limit
+        };
         self.limit.store(next.clamp(1, MOST), Ordering::Relaxed);
         size <= BYTES || limit == 1
     }
@@ -160,7 +166,10 @@ impl Etcd {
     }
 
     /// Does something by a client of its own.
-    fn alone<T, F: std::future::Future<Output = Result<T, Fault>>>(&self, act: impl FnOnce(Client) -> F) -> Result<T, String> {
+    fn alone<T, F: std::future::Future<Output = Result<T, Fault>>>(
+        &self,
+        act: impl FnOnce(Client) -> F,
+    ) -> Result<T, String> {
         let runtime = Builder::new_current_thread().enable_all().build().map_err(|error| error.to_string())?;
         runtime.block_on(act(Client::new(self.clone()))).map_err(|fault| match fault {
             Fault::Status(_, why) => why,

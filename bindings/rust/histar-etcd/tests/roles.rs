@@ -10,7 +10,6 @@ use std::path::{Path, PathBuf};
 use std::process::{Child, Command, Stdio};
 use std::time::{Duration, Instant};
 
-
 /// Certificates, the member with TLS, and the roles.
 const SETUP: &str = r#"
 set -e

@@ -134,7 +134,8 @@ impl<M: Machine> Node<M> {
         if !self.drops.is_empty() {
             return;
         }
-        let oldest = self.marks.first_key_value().filter(|_| self.marks.len() == KEPT).map_or(0, |(_, mark)| mark.place);
+        let oldest =
+            self.marks.first_key_value().filter(|_| self.marks.len() == KEPT).map_or(0, |(_, mark)| mark.place);
         let is_agreed = |mark: &&Mark| {
             mark.checkpoint.is_some()
                 && mark.place > self.dropped

@@ -78,7 +78,7 @@ impl Liar {
     }
 
     /// The next entry of a lane of a new or an older incarnation; sometimes one that is not its next, or that follows nothing.
-    pub fn next<P: Player>(&mut self, random: &mut Random, thread: u64, played: &Played, place: u64) -> Change {
+    fn next<P: Player>(&mut self, random: &mut Random, thread: u64, played: &Played, place: u64) -> Change {
         let new = (place.max(1), 0);
         let known = self.lanes.len() as u64;
         let lane = match random.below(4) {
@@ -97,6 +97,14 @@ impl Liar {
         }
         self.lanes.insert(lane, (number, short(&value)));
         (key("log/e", &format!("{}.{}/{}", spelled(lane.0), spelled(lane.1), spelled(number))), Some(value))
+    }
+
+    /// The entry of a new incarnation, with a call that shows in each reply after it.
+    pub fn call<P: Player>(&mut self, thread: u64, played: &Played, place: u64) -> Change {
+        self.calls += 1;
+        let mut item = vec![0];
+        P::put_call(&P::call(thread, LIES + self.calls, 0), &mut item);
+        (key("log/e", &format!("{}.00/01", spelled(place))), Some(entry(played, &[0; 16], &item)))
     }
 
     /// One change, of many kinds.
@@ -158,7 +166,13 @@ impl Liar {
     }
 
     /// A transaction of some changes, each of another key.
-    pub fn transaction<P: Player>(&mut self, random: &mut Random, thread: u64, played: &Played, store: &Store) -> Vec<Change> {
+    pub fn transaction<P: Player>(
+        &mut self,
+        random: &mut Random,
+        thread: u64,
+        played: &Played,
+        store: &Store,
+    ) -> Vec<Change> {
         let mut changes = BTreeMap::new();
         for _ in 0..1 + random.below(4) {
             let (key, value) = self.change::<P>(random, thread, played, store);

@@ -163,7 +163,7 @@ impl<P: Player> World<P> {
             tellers: Vec::new(),
             said: BTreeMap::new(),
             liar: (seed % 5 > 1).then(|| Liar::new(seed % 5 == 2)),
-            lying: [120, 20, 0][(seed / 5) as usize % 3],
+            lying: [60, 0, 0][(seed / 5) as usize % 3],
             never: BTreeSet::new(),
             unseen: BTreeSet::new(),
             is_quiet: false,
@@ -373,27 +373,29 @@ impl<P: Player> World<P> {
     /// A node that lies takes back an entry that others have played, and all nodes are started anew: once they have said what they had played, by
     /// points or by entries, none goes on without it.
     fn cut(&mut self) {
-        let going: Vec<usize> = (0..self.processes.len()).filter(|it| self.processes[*it].node.fault().is_none()).collect();
-        let Some(played) = going.first().and_then(|first| self.played_by(*first)) else { return };
-        for process in &going {
-            self.submits(*process, &[(self.threads[*process % EVIL][0], 0)], None);
-        }
+        let going: Vec<usize> =
+            (0..self.processes.len()).filter(|it| self.processes[*it].node.fault().is_none()).collect();
+        let Some((&first, played)) = going.first().and_then(|first| Some((first, self.played_by(*first)?))) else {
+            return;
+        };
+        let call = [(self.threads[first % EVIL][0], 0)];
+        self.submits(first, &call, None);
         let Some(liar) = &mut self.liar else { return };
-        let (key, value) = liar.next::<P>(&mut self.random, self.threads[EVIL][0], &played, self.store.revision);
+        let (key, value) = liar.call::<P>(self.threads[EVIL][0], &played, self.store.revision);
         self.store.transact(&[(key.clone(), value)]);
         let way = self.random.below(3);
         let stays = if way == 0 {
             // (what it answered no other has heard of, and it goes on)
             self.hurries();
-            self.says_all(&going[..1]);
-            going[..1].to_vec()
+            self.says_all(&[first]);
+            vec![first]
         } else if way == 1 {
             self.settle(LONG);
             self.says_all(&going);
             Vec::new()
         } else {
             self.hurries();
-            going.iter().for_each(|process| self.submits(*process, &[(self.threads[*process % EVIL][0], 0)], None));
+            self.submits(first, &call, None);
             self.hurries();
             Vec::new()
         };
