@@ -69,14 +69,22 @@ class Liar:
         self.count += status == 0 and "SUCCESS" in said
 
     def puts_entries(self):
-        place = spelled(max(self.revision(), 1))
+        revision = self.revision()
+        if revision == 0:
+            return
+        place = spelled(revision)
         pairs = [(f"/faults/log/e/evil/{place}.{spelled(lane)}/01", "x" * self.random.randrange(1, 300)) for lane in range(self.random.randrange(1, 5))]
         self.random.shuffle(pairs)
         self.transaction(pairs)
 
+    def read(self, *words):
+        """What etcd answers; nothing where it doesn't."""
+        status, said = self.call("get", *words, "-w", "json")
+        documents = [line for line in said.splitlines() if status == 0 and line.startswith("{")]
+        return json.loads(documents[0]) if documents else {}
+
     def ends_another(self):
-        status, said = self.call("get", "/faults/fence/", "--prefix", "-w", "json")
-        fences = json.loads(said).get("kvs", []) if status == 0 else []
+        fences = self.read("/faults/fence/", "--prefix").get("kvs", [])
         if fences:
             self.transaction([(f"/faults/log/c/evil/{spelled(self.random.choice(fences)['create_revision'])}", "x")])
 
@@ -84,8 +92,7 @@ class Liar:
         self.transaction([("/faults/fence/evil/0", "x")])
 
     def revision(self):
-        status, said = self.call("get", "/faults/boot", "-w", "json")
-        return json.loads(said)["header"]["revision"] if status == 0 else 0
+        return self.read("/faults/boot").get("header", {}).get("revision", 0)
 
     def takes_back(self):
         """Deletes what it put last."""

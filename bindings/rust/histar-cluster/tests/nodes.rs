@@ -543,3 +543,24 @@ fn long_entries_are_marked_sooner() {
     told(&north, &[call(2, 2, 0)]);
     until(|| !store.store().range(b"/c/log/a/", b"/c/log/a0", u64::MAX).is_empty());
 }
+
+/// What docs/CLUSTER.md says that a liar can: take back a call that was told, if its node dies before it has said what it had played.
+#[test]
+fn a_call_is_taken_back_before_its_node_has_said_so_and_not_after() {
+    let runs = |says: bool| {
+        let store = Memory::new();
+        let north = open(&store, "north");
+        told(&north, &[call(2, 1, 0)]);
+        with(&store, |store| store.put(&lie(0), b"x", None));
+        told(&north, &[call(2, 2, 0)]);
+        if says {
+            told(&north, &[call(2, 3, 0)]);
+        }
+        drop(north);
+        with(&store, |store| store.transact(&[(lie(0), None)]));
+        let north = open(&store, "north");
+        north.latest().err()
+    };
+    assert!(matches!(runs(true), Some(Uncalled::Stopped(Fault::Differs { .. }))));
+    until(|| runs(false).is_none()); // (it says so each second)
+}

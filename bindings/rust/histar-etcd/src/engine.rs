@@ -19,7 +19,7 @@ const SILENCE: Duration = Duration::from_secs(3);
 
 /// How many keys the first page has, and one of short values at most. etcd bounds no answer by its bytes, and a value may have 1.5 MiB.
 const FIRST: i64 = 16;
-const MOST: i64 = 512;
+const MOST: i64 = 1024;
 
 /// A page of more bytes is asked for again with half as many keys.
 const BYTES: usize = 4 << 20;
@@ -395,5 +395,49 @@ fn answer_of(fault: Fault) -> Answer {
         // (14 and 4 are told of what may be done all the same; 8 is also told of too many requests)
         Fault::Status(7 | 8 | 16, why) if !why.contains("too many requests") => Answer::Refused(why),
         _ => Answer::Lost,
+    }
+}
+
+#[cfg(test)]
+mod tests {
+    use super::*;
+
+    fn page(bytes: usize) -> Result<RangeResponse, Fault> {
+        let value = Bytes::from(vec![0; bytes]);
+        Ok(RangeResponse { kvs: vec![KeyValue { value, ..KeyValue::default() }], ..RangeResponse::default() })
+    }
+
+    /// The limits of the pages that are asked for after one another, while each has so many bytes a key.
+    fn limits(pages: &Pages, count: usize, bytes: usize) -> Vec<(i64, bool)> {
+        let ask = |_| {
+            let limit = pages.limit.load(Ordering::Relaxed);
+            let size = limit as usize * bytes;
+            let told = if limit > 1 && size > BYTES { Err(Fault::TooLong) } else { page(size) };
+            (limit, pages.learns(limit, &told))
+        };
+        (0..count).map(ask).collect()
+    }
+
+    #[test]
+    fn a_page_has_as_many_keys_as_have_few_enough_bytes() {
+        let pages = Pages::new();
+        let short = limits(&pages, 8, 100);
+        assert_eq!(short, [16, 32, 64, 128, 256, 512, 1024, 1024].map(|limit| (limit, true)));
+        let long = limits(&pages, 10, 1 << 20);
+        assert_eq!(long[..9], [1024, 512, 256, 128, 64, 32, 16, 8, 4].map(|limit| (limit, false)));
+        assert_eq!((limits(&pages, 1, 1 << 20), limits(&pages, 1, 8 << 20)), (vec![(1, true)], vec![(1, true)]));
+    }
+
+    #[test]
+    fn the_patience_for_pages_grows() {
+        let pages = Pages::new();
+        let mut seconds = Vec::new();
+        for _ in 0..7 {
+            seconds.push(pages.patience().as_secs_f64());
+            pages.learns(16, &Err(Fault::Lost));
+        }
+        assert_eq!(seconds, [1.5, 3.0, 6.0, 12.0, 24.0, 48.0, 48.0]);
+        pages.learns(16, &page(1));
+        assert_eq!(pages.patience(), PATIENCE);
     }
 }

@@ -135,6 +135,8 @@ pub struct World<P: Player> {
     /// Faults are rarer by this factor.
     calm: u64,
     lacks_checkpoints: bool,
+    /// The fault at which each node stops, where one does.
+    expected: Option<fn(&Fault) -> bool>,
     pub counts: Counts,
     pub broken: Option<String>,
 }
@@ -169,6 +171,7 @@ impl<P: Player> World<P> {
             is_quiet: false,
             calm: [1, 2, 6][seed as usize % 3],
             lacks_checkpoints: false,
+            expected: None,
             counts: Counts::default(),
             broken: None,
         };
@@ -370,6 +373,40 @@ impl<P: Player> World<P> {
         }
     }
 
+    /// A node that lies puts rules that nobody knows, at which each node stops. An operator voids them, and with them what its incarnation put after
+    /// them: then all go on.
+    fn void(&mut self) {
+        let Some(played) = self.played_by(0) else { return };
+        let lane = format!("/sim/log/e/evil/{}.00/", spelled(self.store.revision));
+        let rules = crate::liar::entry(&played, &[0; 16], &[2, 99]);
+        self.expected = Some(|fault| matches!(fault, Fault::UnknownRules { rules: 99, .. }));
+        self.store.put(format!("{lane}01").as_bytes(), &rules, None);
+        let place = self.store.revision;
+        self.store.put(format!("{lane}02").as_bytes(), b"x", None);
+        self.settle(SHORT);
+        if self.processes.iter().any(|it| it.node.fault() != Some(&Fault::UnknownRules { rules: 99, place })) {
+            self.breaks("a node does not stop at rules that it does not know");
+        }
+        self.expected = None;
+        self.store.put(&histar_cluster::void(&name("sim"), place), b"", None);
+        (0..self.processes.len()).for_each(|process| self.restart(process));
+        self.settle(LONG);
+        self.holds();
+    }
+
+    /// What the cluster began with is changed: no node goes on.
+    fn change_boot(&mut self) {
+        self.counts.faults += 1;
+        let boot = self.store.range(b"/sim/boot", b"/sim/boot0", self.store.revision).remove(0);
+        self.expected = Some(|fault| *fault == Fault::OtherBoot);
+        let other = [&boot.value[..boot.value.len() - 1], b"z"].concat();
+        self.store.put(&boot.key, &other, None);
+        self.settle(LONG);
+        if self.processes.iter().any(|it| it.node.fault() != Some(&Fault::OtherBoot)) {
+            self.breaks("a node goes on where what the cluster began with was changed");
+        }
+    }
+
     /// A node that lies takes back an entry that others have played, and all nodes are started anew: once they have said what they had played, by
     /// points or by entries, none goes on without it.
     fn cut(&mut self) {
@@ -383,13 +420,13 @@ impl<P: Player> World<P> {
         let Some(liar) = &mut self.liar else { return };
         let (key, value) = liar.call::<P>(self.threads[EVIL][0], &played, self.store.revision);
         self.store.transact(&[(key.clone(), value)]);
-        let way = self.random.below(3);
-        let stays = if way == 0 {
+        let way = self.random.below(5);
+        let stays = if way < 2 {
             // (what it answered no other has heard of, and it goes on)
             self.hurries();
             self.says_all(&[first]);
             vec![first]
-        } else if way == 1 {
+        } else if way == 2 {
             self.settle(LONG);
             self.says_all(&going);
             Vec::new()
@@ -402,6 +439,7 @@ impl<P: Player> World<P> {
         self.store.transact(&[(key, None)]);
         self.counts.faults += 1;
         (0..self.processes.len()).filter(|it| !stays.contains(it)).for_each(|process| self.restart(process));
+        (0..3).for_each(|_| self.hurries());
         self.settle(LONG);
         self.holds();
     }
@@ -593,6 +631,7 @@ impl<P: Player> World<P> {
             let is_right = match fault {
                 Fault::OtherEngine => self.store.id != 1,
                 Fault::NoCheckpoint if self.lacks_checkpoints => true,
+                fault if self.expected.is_some_and(|is_expected| is_expected(fault)) => true,
                 Fault::NoCheckpoint | Fault::Gap { .. } | Fault::Differs { .. } | Fault::UnknownRules { .. } => {
                     self.is_tampered_with()
                 }
@@ -749,14 +788,17 @@ impl<P: Player> World<P> {
             return;
         }
         match self.liar {
-            Some(Liar { is_mild: true, .. }) => self.keep_back(),
+            Some(Liar { is_mild: true, .. }) => {
+                self.keep_back();
+                self.void();
+            }
             Some(_) => return self.cut(),
             None => {}
         }
         match self.random.below(3) {
             0 => self.lose_disks(),
             1 => self.break_checkpoints(),
-            _ => {}
+            _ => self.change_boot(),
         }
     }
 
