@@ -232,7 +232,7 @@ impl<'p> Log<'p> {
     fn play(&self, state: &mut State<Kernel>) -> Result<Vec<(u64, Digest)>, Fault> {
         let place = state.point().place;
         let mut marks = Vec::new();
-        for pair in self.pairs.iter().filter(|pair| pair.created > place) {
+        for pair in self.pairs.iter().filter(|pair| pair.created >= place) {
             let writer = match state.play(pair.created, &pair.key, &pair.value)? {
                 Step::Entry { lane, .. } => lane.of.node,
                 Step::Closed { by } => by,

@@ -564,3 +564,33 @@ fn a_call_is_taken_back_before_its_node_has_said_so_and_not_after() {
     assert!(matches!(runs(true), Some(Uncalled::Stopped(Fault::Differs { .. }))));
     until(|| runs(false).is_none()); // (it says so each second)
 }
+
+/// A mark may stand between two entries of one transaction, and a node that lies may put its checkpoint.
+#[test]
+fn a_node_begins_between_two_entries_of_one_transaction() {
+    let store = Memory::new();
+    let (north, south) = north_and_south(&store);
+    let evil = open(&store, "evil");
+    let last = [&north, &south, &evil].map(|node| node.latest().expect("a note")).into_iter().max().expect("a note");
+    [&north, &south, &evil].iter().for_each(|node| node.reaches(last).expect("a node that runs"));
+    // (states are compared after each four entries)
+    let entries = north.status().expect("a status").entries;
+    let puts: Vec<_> = (0..6 + (4 - entries % 4)).map(|lane| (lie(lane), Some(b"x".to_vec()))).collect();
+    with(&store, |store| store.transact(&puts));
+    let marked = entries + puts.len() as u64 - 2;
+    let found = |of: &str| {
+        let key = format!("/c/{of}/{}", spelled(marked));
+        !store.store().range(key.as_bytes(), format!("{key}~").as_bytes(), u64::MAX).is_empty()
+    };
+    until(|| ["state/evil", "log/a/evil", "log/a/north", "log/a/south"].iter().all(|of| found(of)));
+    let east = open(&store, "east");
+    let note = east.latest().expect("a note");
+    south.reaches(note).expect("a node that runs");
+    assert_eq!(south.status().map(|it| it.digest), east.status().map(|it| it.digest));
+}
+
+/// A number as keys spell it.
+fn spelled(number: u64) -> String {
+    let digits = format!("{number:x}");
+    format!("{:x}{digits}", digits.len() - 1)
+}

@@ -90,7 +90,8 @@ impl<M: Machine> Node<M> {
             None => {}
             Some(Err(fault)) => self.stop(fault),
             Some(Ok(state)) => {
-                self.reached = state.point().place;
+                // (what else was put at the place of its last entry is not played; what was, counts no more)
+                self.reached = state.point().place.saturating_sub(1);
                 self.begin(state);
                 self.jumped();
                 self.load_log(at, agreed.newest.filter(|(newest, _)| *newest > entries));
