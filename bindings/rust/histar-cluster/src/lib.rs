@@ -25,6 +25,7 @@ mod spelling;
 mod state;
 mod survey;
 mod view;
+mod waiting;
 
 pub use entry::Item;
 pub use kernel::limits;
@@ -34,7 +35,8 @@ pub use node::{Node, Options, Output, Status, LOOK};
 pub use operator::{beginning, void};
 pub use receipt::{Fault, Note, Receipt, Told};
 pub use replica::{Replica, Start};
-pub use running::{Called, Reader, Running, Uncalled, Waiting};
+pub use running::{Called, Reader, Running, Uncalled};
 pub use sha256::Digest;
 pub use survey::{audit, range, Standing, Survey};
 pub use view::{Reads, View};
+pub use waiting::Waiting;

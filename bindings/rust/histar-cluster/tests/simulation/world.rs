@@ -423,7 +423,7 @@ impl<P: Player> World<P> {
         let way = self.random.below(5);
         let stays = if way < 2 {
             // (what it answered no other has heard of, and it goes on)
-            self.hurries();
+            self.hurries(&[first]);
             self.says_all(&[first]);
             vec![first]
         } else if way == 2 {
@@ -431,15 +431,16 @@ impl<P: Player> World<P> {
             self.says_all(&going);
             Vec::new()
         } else {
-            self.hurries();
+            self.hurries(&[first]);
             self.submits(first, &call, None);
-            self.hurries();
+            self.hurries(&[first]);
             Vec::new()
         };
         self.store.transact(&[(key, None)]);
         self.counts.faults += 1;
-        (0..self.processes.len()).filter(|it| !stays.contains(it)).for_each(|process| self.restart(process));
-        (0..3).for_each(|_| self.hurries());
+        let others: Vec<usize> = (0..self.processes.len()).filter(|it| !stays.contains(it)).collect();
+        others.iter().for_each(|process| self.restart(*process));
+        (0..3).for_each(|_| self.hurries(&others));
         self.settle(LONG);
         self.holds();
     }
@@ -449,13 +450,13 @@ impl<P: Player> World<P> {
         self.said.extend(processes.iter().map(|process| (self.processes[*process].start, u64::MAX)));
     }
 
-    /// What is on its way arrives, and is told, before a node looks around.
-    fn hurries(&mut self) {
+    /// What is on its way arrives, and is told to some nodes, before they look around.
+    fn hurries(&mut self, processes: &[usize]) {
         for _ in 0..6 {
             (0..20).for_each(|_| self.deliver());
-            for process in 0..self.processes.len() {
-                (0..20).for_each(|_| self.report(process));
-                self.turn(process);
+            for process in processes {
+                (0..20).for_each(|_| self.report(*process));
+                self.turn(*process);
             }
         }
     }
