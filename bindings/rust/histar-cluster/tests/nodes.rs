@@ -594,3 +594,28 @@ fn spelled(number: u64) -> String {
     let digits = format!("{number:x}");
     format!("{:x}{digits}", digits.len() - 1)
 }
+
+#[test]
+fn a_cluster_goes_on_once_a_false_digest_is_deleted() {
+    for key in ["/c/log/s/evil/", "/c/log/a/evil/04"] {
+        let store = Memory::new();
+        let (north, south) = north_and_south(&store);
+        let first = told(&north, &[call(2, 1, 0)]);
+        let value = if key.contains("/s/") { [&[1, 1][..], &[7; 32]].concat() } else { vec![7; 32] };
+        with(&store, |store| store.put(key.as_bytes(), &value, None));
+        for number in 2.. {
+            let waiting = north.submit(&[call(2, number, 0)]);
+            if waiting.is_err() || waiting.is_ok_and(|it| it.wait().is_none()) {
+                break;
+            }
+        }
+        for node in [&north, &south] {
+            assert!(matches!(stops(node), Fault::Differs { node, .. } if node == name("evil")), "{:?}", node.fault());
+        }
+        with(&store, |store| store.transact(&[(key.into(), None)]));
+        let (north, south) = (open(&store, "north"), open(&store, "south"));
+        south.reaches(north.latest().expect("a note")).expect("a node that runs");
+        let reply = south.read(|model| model.replies.get(&1).cloned()).expect("a machine");
+        assert_eq!(reply.map(Told::Reply).as_slice(), &first[..]);
+    }
+}
