@@ -114,6 +114,8 @@ pub enum Answer {
     Dropped,
     /// There is no answer: it may be done, now or later, or not.
     Lost,
+    /// The same, for a reason that the engine's client knows, as that a certificate is another's.
+    Unreached(String),
     /// It is not done, for a reason of the engine that an operator has to see to: there is no space, or the node has no right.
     Refused(String),
 }

@@ -138,6 +138,8 @@ pub struct Node<M: Machine> {
     writer: Writer,
     queue: VecDeque<Queued>,
     trouble: Option<String>,
+    // Why no member was reached.
+    unreached: Option<String>,
     ticks: u64,
     // The tick of the last answer.
     last_answer: u64,
@@ -170,6 +172,7 @@ impl<M: Machine> Node<M> {
             writer: Writer::None,
             queue: VecDeque::new(),
             trouble: None,
+            unreached: None,
             ticks: 0,
             last_answer: 0,
             registrations: 0,
@@ -233,7 +236,8 @@ impl<M: Machine> Node<M> {
     /// Why the engine does not do what the node asks, also before it has booted. What waits goes on once it does.
     pub fn trouble(&self) -> Option<String> {
         let is_silent = self.fault().is_none() && self.ticks >= self.last_answer + SILENT;
-        self.trouble.clone().or_else(|| is_silent.then(|| "no member of the engine answers".into()))
+        let why = self.unreached.as_ref().map(|why| format!(": {why}")).unwrap_or_default();
+        self.trouble.clone().or_else(|| is_silent.then(|| format!("no member of the engine answers{why}")))
     }
 
     fn state(&self) -> Option<&State<M>> {
@@ -289,8 +293,13 @@ impl<M: Machine> Node<M> {
     /// An answer of the engine to the request of a number, with the identity of the engine's cluster.
     pub fn answer(&mut self, number: u64, engine: u64, answer: Answer) {
         let Some(asked) = self.asked.remove(&number) else { return };
-        if answer == Answer::Lost {
-            return self.lost(asked);
+        match answer {
+            Answer::Lost => return self.lost(asked),
+            Answer::Unreached(why) => {
+                self.unreached = Some(why);
+                return self.lost(asked);
+            }
+            _ => self.unreached = None,
         }
         self.last_answer = self.ticks;
         if let Answer::Refused(why) = answer {

@@ -65,7 +65,7 @@ impl Pages {
     /// Takes how a page went that was asked for with so many keys. False where it is to be asked for again, with fewer.
     fn learns(&self, limit: i64, told: &Result<RangeResponse, Fault>) -> bool {
         let size = match told {
-            Err(Fault::Lost) => {
+            Err(Fault::Lost(_)) => {
                 self.lost.fetch_add(1, Ordering::Relaxed);
                 BYTES
             }
@@ -173,7 +173,8 @@ impl Etcd {
         let runtime = Builder::new_current_thread().enable_all().build().map_err(|error| error.to_string())?;
         runtime.block_on(act(Client::new(self.clone()))).map_err(|fault| match fault {
             Fault::Status(_, why) => why,
-            _ => "no member of the engine answers".into(),
+            Fault::Lost(why) => format!("no member of the engine answers: {why}"),
+            Fault::TooLong => "an answer is too long".into(),
         })
     }
 
@@ -274,7 +275,12 @@ impl Client {
         }
         let member = &self.etcd.members[open.0 % self.etcd.members.len()];
         open.0 += 1;
-        let channel = tokio::time::timeout(PATIENCE, Channel::connect(member, self.etcd.tls.clone())).await??;
+        let connected = tokio::time::timeout(PATIENCE, Channel::connect(member, self.etcd.tls.clone())).await;
+        let named = |why: Fault| match why {
+            Fault::Lost(why) => Fault::Lost(format!("{member}: {why}")),
+            why => why,
+        };
+        let channel = connected.map_err(Fault::from).and_then(|channel| channel).map_err(named)?;
         open.1 = Some(channel.clone());
         Ok((open.0, channel))
     }
@@ -304,7 +310,7 @@ impl Client {
             Ok(told) => told,
             Err(late) => Err(late.into()),
         };
-        if matches!(told, Err(Fault::Lost)) {
+        if matches!(told, Err(Fault::Lost(_))) {
             self.leave(number).await;
         }
         told
@@ -343,7 +349,7 @@ impl Client {
                 let done: Done = self.ask("/etcdserverpb.KV/Compact", &question).await?;
                 Ok((header(&done.header).0, Answer::Dropped))
             }
-            Request::Watch { .. } => Err(Fault::Lost),
+            Request::Watch { .. } => Err(Fault::Lost("a watch is a stream".into())),
         }
     }
 
@@ -394,7 +400,8 @@ fn answer_of(fault: Fault) -> Answer {
         Fault::Status(11, why) if why.contains("compacted") => Answer::Forgotten,
         // (14 and 4 are told of what may be done all the same; 8 is also told of too many requests)
         Fault::Status(7 | 8 | 16, why) if !why.contains("too many requests") => Answer::Refused(why),
-        _ => Answer::Lost,
+        Fault::Lost(why) | Fault::Status(_, why) => Answer::Unreached(why),
+        Fault::TooLong => Answer::Lost,
     }
 }
 
@@ -434,7 +441,7 @@ mod tests {
         let mut seconds = Vec::new();
         for _ in 0..7 {
             seconds.push(pages.patience().as_secs_f64());
-            pages.learns(16, &Err(Fault::Lost));
+            pages.learns(16, &Err(Fault::Lost(String::new())));
         }
         assert_eq!(seconds, [1.5, 3.0, 6.0, 12.0, 24.0, 48.0, 48.0]);
         pages.learns(16, &page(1));

@@ -13,8 +13,8 @@ use tokio_rustls::TlsConnector;
 /// Why a call has no answer.
 #[derive(Debug)]
 pub enum Fault {
-    /// The connection is gone, or there was none, or no answer came in time: what was asked may be done, now or later, or not.
-    Lost,
+    /// The connection is gone, or there was none, or no answer came in time: what was asked may be done, now or later, or not. The reason.
+    Lost(String),
     /// The engine answered by a status other than 0.
     Status(u32, String),
     /// The answer has more bytes than were asked for.
@@ -22,8 +22,8 @@ pub enum Fault {
 }
 
 impl<E: std::error::Error> From<E> for Fault {
-    fn from(_: E) -> Fault {
-        Fault::Lost
+    fn from(error: E) -> Fault {
+        Fault::Lost(error.to_string())
     }
 }
 
@@ -133,7 +133,7 @@ impl Channel {
         if let Some(trailers) = body.trailers().await? {
             status(&trailers)?;
         }
-        message(&mut buffer)?.ok_or(Fault::Lost)
+        message(&mut buffer)?.ok_or_else(|| Fault::Lost("an answer ends too soon".into()))
     }
 
     /// A question with many answers.
@@ -164,7 +164,7 @@ impl Stream {
                 if let Some(trailers) = self.body.trailers().await? {
                     status(&trailers)?;
                 }
-                return Err(Fault::Lost);
+                return Err(Fault::Lost("a stream ended".into()));
             }
         }
     }

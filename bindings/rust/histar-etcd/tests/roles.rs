@@ -169,15 +169,8 @@ fn a_role_holds_a_node_to_its_own_keys() {
     assert!(matches!(waiting.wait(), Some(Receipt::Told { .. })));
 
     let south = it.open("south", "north");
-    let end = Instant::now() + Duration::from_secs(20);
-    let trouble = loop {
-        if let Some(trouble) = south.status().and_then(|status| status.trouble) {
-            break trouble;
-        }
-        assert!(Instant::now() < end, "a node with another's certificate says nothing");
-        std::thread::sleep(Duration::from_millis(50));
-    };
-    assert!(trouble.contains("permission denied"), "{trouble}");
+    let said = trouble(&south);
+    assert!(said.contains("permission denied"), "{said}");
 
     assert!(it.shell("etcdctl put /files/log/e/south/01.00/01 x", "south"), "its own key");
     for wrong in [
@@ -193,4 +186,37 @@ fn a_role_holds_a_node_to_its_own_keys() {
         assert!(!it.shell(&format!("etcdctl {wrong}"), "south"), "{wrong}");
     }
     assert!(Path::new(&it.folder).exists());
+}
+
+/// What a node says of its trouble, once it does.
+fn trouble(node: &Running<Model>) -> String {
+    let end = Instant::now() + Duration::from_secs(30);
+    loop {
+        if let Some(trouble) = node.trouble() {
+            return trouble;
+        }
+        assert!(Instant::now() < end, "a node says nothing");
+        std::thread::sleep(Duration::from_millis(50));
+    }
+}
+
+#[test]
+fn why_no_member_answers_is_told() {
+    for (member, why) in [("127.0.0.1:1", "refused"), ("no-such-host.invalid:1", "lookup")] {
+        let etcd = Etcd { members: vec![member.into()], tls: None, lease: 5 };
+        let said = trouble(&Running::<Model>::open(etcd, options("north")));
+        assert!(said.starts_with(&format!("no member of the engine answers: {member}: ")), "{said}");
+        assert!(said.contains(why), "{said}");
+    }
+    let Some(it) = with_roles(24906) else { return };
+    let address = format!("127.0.0.1:{}", it.port);
+    let by_address = Etcd { members: vec![address.clone()], ..it.etcd("north") };
+    let said = trouble(&Running::<Model>::open(by_address, options("north")));
+    assert!(said.contains(&address) && said.contains("dns name"), "{said}");
+    assert!(it.shell(
+        "cp ca.pem other.pem; openssl req -x509 -newkey rsa:2048 -nodes -keyout x.key -out ca.pem -subj /CN=x",
+        "root"
+    ));
+    let said = trouble(&it.open("north", "north"));
+    assert!(said.contains("certificate"), "{said}");
 }
