@@ -156,7 +156,7 @@ class Faults:
         try:
             time.sleep(3)
             give_roles(self, "n0 n1 n2 check evil")
-            status, said = self.operator("begin", "n0", "1024", "200")
+            status, said = self.operator("begin", "n0", "1024", "1000")
             if status != 0:
                 return False, said
             status, said = self.call(f"{self.programs}/examples/caller", "prepare", "faults", ",".join(self.members), "n0", "n1", "n2")

@@ -111,7 +111,7 @@ where
         node: name(node),
         limits: limits(&Limits::pages(1024)),
         lanes: 4,
-        interval: 200,
+        interval: 1000,
         any: now.as_nanos() as u64,
     };
     Running::open(engine, options)
@@ -205,7 +205,8 @@ struct Kept {
 }
 
 impl Kept {
-    /// Keeps what was put, and tells the nodes so, as a node tells how far it has played: they drop nothing else.
+    /// Keeps what was put, and tells the nodes so, as a node tells how far it has played: they drop nothing else, up to four
+    /// marks back.
     fn look(&mut self) -> bool {
         let (from, to) = range(&name(&self.cluster));
         let Ok(pairs) = self.etcd.keys(&from, &to) else { return false };

@@ -83,6 +83,9 @@ impl Channel {
             None => Channel::over(tcp, address, "http").await,
             Some(config) => {
                 let host = address.rsplit_once(':').map_or(address, |(host, _)| host);
+                if host.parse::<std::net::IpAddr>().is_ok() {
+                    return Err(Fault::Lost("by TLS a member is reached by its name, not by its address".into()));
+                }
                 let tls = TlsConnector::from(config).connect(ServerName::try_from(host)?, tcp).await?;
                 Channel::over(tls, address, "https").await
             }

@@ -202,17 +202,18 @@ fn trouble(node: &Running<Model>) -> String {
 
 #[test]
 fn why_no_member_answers_is_told() {
-    for (member, why) in [("127.0.0.1:1", "refused"), ("no-such-host.invalid:1", "lookup")] {
+    // (a name that nobody has is told of at once or late, as the machine's resolver does)
+    for (member, reasons) in [("127.0.0.1:1", ["refused"; 2]), ("no-such-host.invalid:1", ["lookup", "deadline"])] {
         let etcd = Etcd { members: vec![member.into()], tls: None, lease: 5 };
         let said = trouble(&Running::<Model>::open(etcd, options("north")));
         assert!(said.starts_with(&format!("no member of the engine answers: {member}: ")), "{said}");
-        assert!(said.contains(why), "{said}");
+        assert!(reasons.iter().any(|why| said.contains(why)), "{said}");
     }
     let Some(it) = with_roles(24906) else { return };
     let address = format!("127.0.0.1:{}", it.port);
     let by_address = Etcd { members: vec![address.clone()], ..it.etcd("north") };
     let said = trouble(&Running::<Model>::open(by_address, options("north")));
-    assert!(said.contains(&address) && said.contains("dns name"), "{said}");
+    assert!(said.contains(&address) && said.contains("by its name"), "{said}");
     assert!(it.shell(
         "cp ca.pem other.pem; openssl req -x509 -newkey rsa:2048 -nodes -keyout x.key -out ca.pem -subj /CN=x",
         "root"
