@@ -354,7 +354,9 @@ impl<M: Machine> Node<M> {
         self.ticks += 1;
         for asked in std::mem::take(&mut self.again) {
             match asked.purpose {
-                Purpose::Boot => self.look_at_boot(), // (who begins the cluster may be another one)
+                // (who begins the cluster may be an operator)
+                Purpose::Boot if self.ticks % LOOK > 0 => self.again.push(asked),
+                Purpose::Boot => self.look_at_boot(),
                 purpose if self.is_needed(&purpose) => self.ask(purpose, asked.request),
                 _ => {}
             }
