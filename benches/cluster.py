@@ -22,7 +22,10 @@ KINDS = {
     "bare puts, 64 callers": ("puts", "3", "64"),
     "a call an entry, 64 callers": ("calls", "3", "64", "64", "1"),
     "16 calls an entry, 64 callers": ("calls", "3", "64", "64", "16"),
+    "group commit, 64 callers": ("calls", "3", "4", "64", "1"),
+    "group commit, 64 tasks": ("tasks", "3", "4", "64", "1"),
     "group commit, 1,024 callers": ("calls", "3", "4", "1024", "1"),
+    "group commit, 1,024 tasks": ("tasks", "3", "4", "1024", "1"),
 }
 BEHIND = 100_000
 COUNTED = ["valgrind", "--tool=callgrind", "--callgrind-out-file=/dev/null", "--collect-atstart=no", "--toggle-collect=*read_many*"]

@@ -95,8 +95,8 @@ def try_engine(report, library, room, auditor):
     tested = subprocess.run(["cargo", "test", "--offline", "--quiet"], cwd=ETCD, env=env, stdout=subprocess.PIPE, stderr=subprocess.STDOUT, text=True)
     report.say("" if tested.returncode == 0 else tested.stdout[-3000:])
     report.counts(tested.returncode == 0, "cargo test: the crate histar-etcd")
-    if not shutil.which("etcd"):
-        report.say("left out: faults on etcd: it is not on the path")
+    if not all(shutil.which(it) for it in ("etcd", "etcdctl", "openssl")):
+        report.say("left out: faults on etcd: etcd, etcdctl or openssl is not on the path")
         return
     built = subprocess.run(["cargo", "build", "--release", "--offline", "--quiet", "--bins", "--examples"], cwd=ETCD, env=env, check=False)
     if built.returncode != 0:

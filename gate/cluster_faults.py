@@ -1,5 +1,6 @@
 """Faults from a seed on the real engine: three members of etcd and three nodes, each on a host of its own (gate/hosts.py), which are
-killed, paused or cut off; a member is replaced by one that has nothing; the log is dropped beneath a node that sleeps. The log is kept as it is put: each call that was answered is there
+killed, paused or cut off; a member is replaced by one that has nothing; the log is dropped beneath a node that sleeps. All connect by TLS, with the
+roles of docs/CLUSTER.md, and a fourth node lies within its role (gate/liar.py). The log is kept as it is put: each call that was answered is there
 once with that answer, and none that was told never to be made; and histar-audit finds clean the whole log, and what is left of it. Alone: python3 -m gate.cluster_faults FOLDER SECONDS SEED [AUDITOR]"""
 import glob
 import json
@@ -12,6 +13,7 @@ import sys
 import time
 
 from gate.hosts import hosts_for
+from gate.liar import Liar, certify, give_roles
 
 CRATE = "bindings/rust/histar-etcd"
 BASE = 23790
@@ -34,12 +36,16 @@ class Faults:
         self.random = random.Random(seed)
         self.hosts = hosts_for([f"{kind}{it}" for kind in "mn" for it in range(3)])
         self.faults = FAULTS + (CUTS if self.hosts.can_cut else ())
-        self.members = [f"{self.hosts.address(f'm{it}')}:{BASE + 10 * it}" for it in range(3)]
+        self.members = [f"{self.hosts.named(f'm{it}')}:{BASE + 10 * it}" for it in range(3)]
+        self.listen = [f"https://{self.hosts.address(f'm{it}')}:{BASE + 10 * it}" for it in range(3)]
         self.peers = [f"http://{self.hosts.address(f'm{it}')}:{BASE + 10 * it + 1}" for it in range(3)]
         self.starts = [0] * 3
         self.counts = {DROPPED: 0}
         shutil.rmtree(folder, ignore_errors=True)
         os.makedirs(folder)
+        self.tls = f"{folder}/tls"
+        certify(self.tls, [f"m{it}" for it in range(3)], ["root", "operator", "check", "evil", "n0", "n1", "n2"])
+        self.liar = Liar(self, self.random.randrange(1 << 32))
 
     def log(self, name):
         return open(f"{self.folder}/{name}.log", "a", encoding="utf-8")
@@ -48,13 +54,23 @@ class Faults:
         peer = self.peers
         words = [*self.hosts.on(f"m{it}"), "etcd", "--name", f"m{it}", "--data-dir", f"{self.folder}/m{it}", "--initial-cluster-state", state, "--log-level", "error",
                  "--initial-cluster", ",".join(f"m{at}={peer[at]}" for at in range(3)), "--listen-peer-urls", peer[it], "--initial-advertise-peer-urls", peer[it],
-                 "--listen-client-urls", f"http://{self.members[it]}", "--advertise-client-urls", f"http://{self.members[it]}"]
+                 "--listen-client-urls", self.listen[it], "--advertise-client-urls", f"https://{self.members[it]}",
+                 "--client-cert-auth", "--trusted-ca-file", f"{self.tls}/ca.pem", "--cert-file", f"{self.tls}/member.pem", "--key-file", f"{self.tls}/member.key"]
         with self.log(f"m{it}") as out:
             return subprocess.Popen(words, stdout=out, stderr=out)
 
-    def call(self, *words):
-        done = subprocess.run([*self.hosts.on("hub"), *words], stdout=subprocess.PIPE, stderr=subprocess.STDOUT, text=True)
+    def environment(self, user):
+        """What a program finds its certificates by; etcdctl, the user's."""
+        files = {"ETCDCTL_CACERT": "ca.pem", "ETCDCTL_CERT": f"{user}.pem", "ETCDCTL_KEY": f"{user}.key"}
+        return {**os.environ, "ETCDCTL_API": "3", "HISTAR_TLS": self.tls, **{name: f"{self.tls}/{file}" for name, file in files.items()}}
+
+    def call(self, *words, user="root", said=""):
+        done = subprocess.run([*self.hosts.on("hub"), *words], env=self.environment(user), input=said, stdout=subprocess.PIPE, stderr=subprocess.STDOUT, text=True)
         return done.returncode, done.stdout
+
+    def operator(self, what, *words):
+        """Asks for something of the cluster as its operator."""
+        return self.call(f"{self.programs}/histar-cluster", what, "faults", ",".join(self.members), *words, *(f"{self.tls}/{it}" for it in ("ca.pem", "operator.pem", "operator.key")))
 
     def node(self, it, left):
         self.starts[it] += 1
@@ -62,12 +78,12 @@ class Faults:
         file = f"{self.folder}/calls-{it}.{self.starts[it]}"
         words = [*self.hosts.on(f"n{it}"), f"{self.programs}/examples/caller", "run", "faults", turned, f"n{it}", self.threads[it], file, CALLERS, str(max(left, 1))]
         with self.log(f"n{it}") as out:
-            return subprocess.Popen(words, stdout=out, stderr=out)
+            return subprocess.Popen(words, env=self.environment("root"), stdout=out, stderr=out)
 
     def following(self):
         """Who keeps the log, once it does."""
         words = [*self.hosts.on("hub"), f"{self.programs}/examples/caller", "check", "faults", ",".join(self.members), ",".join(self.threads), f"{self.folder}/whole"]
-        started = subprocess.Popen(words, stdin=subprocess.PIPE, stdout=subprocess.PIPE, stderr=subprocess.STDOUT, text=True)
+        started = subprocess.Popen(words, env=self.environment("root"), stdin=subprocess.PIPE, stdout=subprocess.PIPE, stderr=subprocess.STDOUT, text=True)
         started.stdout.readline()
         return started
 
@@ -139,6 +155,10 @@ class Faults:
         nodes, following = [], []
         try:
             time.sleep(3)
+            give_roles(self, "n0 n1 n2 check evil")
+            status, said = self.operator("begin", "n0", "1024", "1000")
+            if status != 0:
+                return False, said
             status, said = self.call(f"{self.programs}/examples/caller", "prepare", "faults", ",".join(self.members), "n0", "n1", "n2")
             if status != 0:
                 return False, said
@@ -148,6 +168,7 @@ class Faults:
             left = lambda: int(end - time.time())
             nodes = [self.node(it, left()) for it in range(3)]
             time.sleep(1)
+            self.liar.start()
             while left() > ASLEEP + 3:
                 node, member = self.hurt(nodes, members, self.next_fault(), left() - 3)
                 if node is not None:
@@ -155,10 +176,13 @@ class Faults:
                 if member is not None:
                     members[member] = self.member(member, "existing")
                 time.sleep(self.random.uniform(0.2, 1.5))
+            self.liar.stop()
             stopped = [it.wait() for it in nodes]
             is_well, said = self.check(following[0])
-            return is_well and not any(stopped), said
+            is_told = self.is_told_of()
+            return is_well and is_told and not any(stopped), f"{said}, {self.liar.count} lies, {'one' if is_told else 'NONE'} taken back and told of"
         finally:
+            self.liar.stop()
             for it in nodes + members + following:
                 it.kill()
                 it.wait()
@@ -169,11 +193,21 @@ class Faults:
         undone = [it for it in reversed(self.faults) if it not in self.counts]
         return "node sleeps" if "node sleeps" in undone else undone[0] if undone else self.random.choice(self.faults)
 
+    def is_told_of(self):
+        """Whether a node stops that starts once an entry was taken back which another has played."""
+        node = self.node(0, 8)
+        time.sleep(4)
+        self.liar.puts_entries()
+        if node.wait() != 0:
+            return False
+        self.liar.takes_back()
+        return self.node(1, 5).wait() != 0
+
     def check(self, following):
         said = following.communicate("".join(f"{it}\n" for it in sorted(glob.glob(f"{self.folder}/calls-*"))))[0]
         status = following.returncode
         for what in ("status", "audit"):
-            done, told = self.call(f"{self.programs}/histar-cluster", what, "faults", ",".join(self.members))
+            done, told = self.operator(what)
             with open(f"{self.folder}/{what}", "w", encoding="utf-8") as it:
                 it.write(told)
             status = status or done

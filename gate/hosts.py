@@ -1,5 +1,6 @@
 """Hosts on one machine: network namespaces of this run's own, joined by a bridge in one more, so that one can be cut off from the others."""
 import os
+import shutil
 import subprocess
 
 
@@ -14,6 +15,9 @@ class Loopback:
 
     def address(self, _):
         return "127.0.0.1"
+
+    def named(self, _):
+        return "localhost"
 
     def on(self, _):
         return []
@@ -42,12 +46,24 @@ class Hosts:
                       ("ip", "-n", hub, "link", "set", it, "master", "bridge", "up"), ("ip", "-n", own, "address", "add", f"{self.address(it)}/24", "dev", "own"),
                       ("ip", "-n", own, "link", "set", "own", "up"), ("ip", "-n", own, "link", "set", "lo", "up")]
         if all(is_made(*it) for it in steps):
+            self.tell_names()
             return True
         self.end()
         return False
 
     def address(self, name):
         return f"10.77.0.{100 if name == 'hub' else 1 + self.names.index(name)}"
+
+    def named(self, name):
+        return name
+
+    def tell_names(self):
+        """Each host knows the others by their names: ip puts this file into the place of /etc/hosts."""
+        lines = "".join(f"{self.address(it)} {it}\n" for it in self.names)
+        for it in self.space.values():
+            os.makedirs(f"/etc/netns/{it}", exist_ok=True)
+            with open(f"/etc/netns/{it}/hosts", "w", encoding="utf-8") as out:
+                out.write(f"127.0.0.1 localhost\n{lines}")
 
     def on(self, name):
         """What stands before the words of a program that runs on a host."""
@@ -59,6 +75,7 @@ class Hosts:
     def end(self):
         for it in self.space.values():
             is_made("ip", "netns", "delete", it)
+            shutil.rmtree(f"/etc/netns/{it}", ignore_errors=True)
 
 
 def hosts_for(names):

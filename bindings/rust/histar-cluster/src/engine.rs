@@ -41,14 +41,17 @@ pub enum Request {
         /// The lease.
         lease: u64,
     },
-    /// Deletes keys, and forgets the changes up to a revision, 0 for none of them.
+    /// Deletes keys.
     Drop {
         /// The first key.
         from: Key,
         /// The end: this key is none of them.
         to: Key,
+    },
+    /// Forgets what keys were before a revision.
+    Forget {
         /// The revision.
-        forget: u64,
+        before: u64,
     },
 }
 
@@ -97,7 +100,7 @@ pub enum Answer {
     },
     /// The watch begins, at this revision of the engine.
     Watching(u64),
-    /// Puts that the watch reports, by rising revision.
+    /// Puts that the watch reports, by rising revision: all of each revision, as one transaction may put several keys.
     Events(Vec<Event>),
     /// The watch ended.
     Ended,
@@ -107,10 +110,12 @@ pub enum Answer {
     Lease(u64),
     /// The lease is kept, or it was gone.
     Kept,
-    /// It is deleted.
+    /// It is deleted or forgotten.
     Dropped,
     /// There is no answer: it may be done, now or later, or not.
     Lost,
+    /// The same, for a reason that the engine's client knows, as that a certificate is another's.
+    Unreached(String),
     /// It is not done, for a reason of the engine that an operator has to see to: there is no space, or the node has no right.
     Refused(String),
 }

@@ -1,9 +1,35 @@
-//! An entry of the log: a list of items.
-use crate::spelling::{put_bytes, put_number, take_bytes, take_number};
+//! An entry of the log: what it follows, and a list of items.
+use crate::history::Point;
+use crate::sha256::{sha256, Digest};
+use crate::spelling::{put_bytes, put_number, take, take_bytes, take_number};
 use crate::{Machine, Name};
 
 /// The first byte of each entry.
-const FORMAT: u8 = 1;
+const FORMAT: u8 = 2;
+
+/// As much of a digest as an entry and a lane have: two entries with one are equal, also where a node lies.
+pub(crate) type Short = [u8; 16];
+
+/// The beginning of a digest.
+pub(crate) fn short(digest: &Digest) -> Short {
+    let mut out = [0; 16];
+    out.copy_from_slice(&digest[..16]);
+    out
+}
+
+/// What an entry follows: so many entries that its node had played, and a digest of these and of the entry before it in its lane.
+#[derive(Clone, PartialEq, Eq, Debug)]
+pub(crate) struct Head {
+    pub entries: u64,
+    link: Short,
+}
+
+impl Head {
+    /// The head of an entry whose node had played up to a point, after an entry of this digest in its lane, zeros for the first.
+    pub fn new(played: &Point, before: &Short) -> Head {
+        Head { entries: played.entries, link: short(&sha256(&[&before[..], &played.digest].concat())) }
+    }
+}
 
 /// What a node asks for. All of it is played in the order of the log.
 #[derive(Clone, PartialEq, Eq, Debug)]
@@ -22,8 +48,11 @@ pub enum Item<C> {
 }
 
 /// The bytes of an entry that has no item yet.
-pub(crate) fn begin() -> Vec<u8> {
-    vec![FORMAT]
+pub(crate) fn begin(head: &Head) -> Vec<u8> {
+    let mut out = vec![FORMAT];
+    put_number(&mut out, head.entries);
+    out.extend_from_slice(&head.link);
+    out
 }
 
 /// Adds an item to an entry.
@@ -58,14 +87,15 @@ fn next<M: Machine>(bytes: &mut &[u8]) -> Option<Item<M::Call>> {
     }
 }
 
-/// The items of an entry. None where the bytes are no entry: then nothing of it is played, on no node.
-pub(crate) fn read<M: Machine>(bytes: &[u8]) -> Option<Vec<Item<M::Call>>> {
+/// The head and the items of an entry. None where the bytes are no entry: then nothing of it is played, on no node.
+pub(crate) fn read<M: Machine>(bytes: &[u8]) -> Option<(Head, Vec<Item<M::Call>>)> {
     let mut rest = bytes.strip_prefix(&[FORMAT])?;
+    let head = Head { entries: take_number(&mut rest)?, link: take(&mut rest, 16)?.try_into().ok()? };
     let mut items = Vec::new();
     while !rest.is_empty() {
         items.push(next::<M>(&mut rest)?);
     }
-    Some(items)
+    Some((head, items))
 }
 
 /// Items that were added one after another.

@@ -1,6 +1,6 @@
 //! The proved kernel as the machine of a cluster.
 use crate::spelling::{put_number, take_number};
-use crate::{Machine, Unrestored, Written};
+use crate::{Machine, Unrestored, View, Written};
 use histar::trusted::{session_of, Record, Thread};
 use histar::{Kernel, Level, Limits, Refusal, Refused, Reply};
 
@@ -56,6 +56,7 @@ fn put_numbers(out: &mut Vec<u8>, numbers: [u64; 3]) {
 impl Machine for Kernel {
     type Call = Record;
     type Reply = Result<Reply, Refused>;
+    type View<'m> = View<'m>;
 
     const RULES: u64 = 1;
 
@@ -70,6 +71,11 @@ impl Machine for Kernel {
 
     fn play(&mut self, call: &Record) -> Result<Reply, Refused> {
         Kernel::play(self, call)
+    }
+
+    #[inline]
+    fn view(&mut self) -> View<'_> {
+        View::new(self)
     }
 
     fn is_live(&self, thread: u64) -> bool {
@@ -132,22 +138,27 @@ impl Machine for Kernel {
 #[cfg(test)]
 mod tests {
     use super::*;
-    use crate::entry::{add, begin, read};
+    use crate::entry::{add, begin, read, Head};
+    use crate::history::Point;
     use crate::keys::{Incarnation, Keys, Lane};
     use crate::{Item, Name};
     use histar::{Call, Entry, Object};
 
+    fn head() -> Head {
+        Head::new(&Point { entries: 1 << 24, place: 1 << 30, digest: [7; 32] }, &[7; 16])
+    }
+
     #[test]
-    fn an_entry_of_one_write_has_at_most_120_bytes() {
+    fn an_entry_of_one_write_has_at_most_140_bytes() {
         let (cluster, node) = (Name::new("files").unwrap(), Name::new("north").unwrap());
         let lane = Lane { of: Incarnation { node, number: 1 << 30 }, number: 3 };
         let key = Keys::new(cluster).entry(&lane, 1 << 24);
         let bytes = [0xa5; 64];
         let write = Call::SegmentWrite { entry: Entry::in_root(Object(400)), offset: 192, bytes: bytes[..].into() };
-        let mut value = begin();
+        let mut value = begin(&head());
         add::<Kernel>(&mut value, &Item::Call(Record::new(Thread::BOOT, &write).unwrap()));
-        assert!(key.len() + value.len() <= 120, "{} and {}", key.len(), value.len());
-        assert_eq!(read::<Kernel>(&value).map(|items| items.len()), Some(1));
+        assert!(key.len() + value.len() <= 140, "{} and {}", key.len(), value.len());
+        assert_eq!(read::<Kernel>(&value).map(|(it, items)| (it, items.len())), Some((head(), 1)));
     }
 
     /// Random bytes, and calls with some bytes changed: what is read as an entry is spelled so.
@@ -160,11 +171,12 @@ mod tests {
         };
         let mut taken = 0;
         for _ in 0..200_000 {
-            let mut bytes = vec![1, 0, 1 + next(24) as u8, 2];
+            let mut bytes = begin(&head());
+            bytes.extend_from_slice(&[0, 1 + next(24) as u8, 2]);
             let len = next(40);
             bytes.extend((0..len).map(|_| if next(2) == 0 { next(5) as u8 } else { next(256) as u8 }));
-            let Some(items) = read::<Kernel>(&bytes) else { continue };
-            let mut again = begin();
+            let Some((_, items)) = read::<Kernel>(&bytes) else { continue };
+            let mut again = begin(&head());
             items.iter().for_each(|item| add::<Kernel>(&mut again, item));
             assert_eq!(again, bytes);
             taken += 1;

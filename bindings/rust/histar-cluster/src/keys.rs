@@ -2,14 +2,16 @@
 //!
 //! | Key | Value | Put by |
 //! |---|---|---|
-//! | `boot` | what each node boots with | the first node |
-//! | `fence/NODE/ANY` | how far the node has played | a node that writes, with its lease; its creation is the incarnation |
-//! | `log/a/NODE/PLACE` | the digest of the state at a place | each node: it agrees |
+//! | `boot` | what each node boots with | who begins the cluster |
+//! | `boot/PLACE` | nothing | an operator: what stands at that place is void |
+//! | `fence/NODE/ANY` | the place up to which the node has played | a node that writes, with its lease; its creation is the incarnation |
+//! | `log/a/NODE/ENTRIES` | the digest of the state after so many entries | each node: it agrees |
 //! | `log/c/NODE/INCARNATION` | nothing | any node: the incarnation is closed |
 //! | `log/e/NODE/INCARNATION.LANE/NUMBER` | an entry | its node |
-//! | `state/NODE/PLACE` | a checkpoint | the node whose entry has that place |
+//! | `log/s/NODE/` | the point up to which the node has played | each node |
+//! | `state/NODE/ENTRIES` | a checkpoint | the node of the last of these entries |
 //!
-//! A node puts under its own name alone, so a role of the engine can hold it to that.
+//! A node puts under its own name alone, so a role of the engine can hold it to that. Under `boot` it puts nothing once the cluster has begun.
 use crate::spelling::{number_of, spelled};
 use std::fmt;
 use std::sync::Arc;
@@ -72,10 +74,12 @@ pub struct Lane {
 pub(crate) enum LogKey {
     /// The entry of a number in a lane.
     Entry(Lane, u64),
-    /// The closing of an incarnation.
-    Close(u64),
-    /// A node's digest at a place.
+    /// The closing of an incarnation by a node.
+    Close(Name, u64),
+    /// A node's digest after so many entries.
     Agree(Name, u64),
+    /// The point up to which a node has played.
+    Seen(Name),
 }
 
 /// A key, or an end of a range of keys.
@@ -114,6 +118,15 @@ impl Keys {
         self.key(format_args!("boot"))
     }
 
+    pub fn void(&self, place: u64) -> Key {
+        self.key(format_args!("boot/{}", spelled(place)))
+    }
+
+    /// The range of what the cluster began with, of what is void, and of the fences.
+    pub fn begun(&self) -> (Key, Key) {
+        (self.boot(), end_of(self.fences()))
+    }
+
     pub fn fences(&self) -> Key {
         self.key(format_args!("fence/"))
     }
@@ -130,8 +143,12 @@ impl Keys {
         self.key(format_args!("log/a/"))
     }
 
-    pub fn agreement(&self, node: &Name, place: u64) -> Key {
-        self.key(format_args!("log/a/{node}/{}", spelled(place)))
+    pub fn agreement(&self, node: &Name, entries: u64) -> Key {
+        self.key(format_args!("log/a/{node}/{}", spelled(entries)))
+    }
+
+    pub fn seen(&self, node: &Name) -> Key {
+        self.key(format_args!("log/s/{node}/"))
     }
 
     pub fn close(&self, node: &Name, incarnation: u64) -> Key {
@@ -143,11 +160,11 @@ impl Keys {
         self.key(format_args!("log/e/{node}/{}.{}/{}", spelled(*incarnation), spelled(lane.number), spelled(number)))
     }
 
-    pub fn state(&self, node: &Name, place: u64) -> Key {
-        self.key(format_args!("state/{node}/{}", spelled(place)))
+    pub fn state(&self, node: &Name, entries: u64) -> Key {
+        self.key(format_args!("state/{node}/{}", spelled(entries)))
     }
 
-    /// The beginnings of all keys that a node puts, but of its fences.
+    /// The beginnings of all keys that a node puts and drops.
     pub fn of_node(&self, node: &Name) -> [Key; 4] {
         ["log/a", "log/c", "log/e", "state"].map(|kind| self.key(format_args!("{kind}/{node}/")))
     }
@@ -167,7 +184,12 @@ impl Keys {
         Name::new(self.rest(key, "fence")?.split_once('/')?.0)
     }
 
-    /// The place of a checkpoint.
+    /// The place that is void.
+    pub fn read_void(&self, key: &[u8]) -> Option<u64> {
+        number_of(self.rest(key, "boot")?)
+    }
+
+    /// The number of entries of a checkpoint.
     pub fn read_state(&self, key: &[u8]) -> Option<u64> {
         number_of(self.rest(key, "state")?.split_once('/')?.1)
     }
@@ -179,7 +201,8 @@ impl Keys {
         let node = Name::new(node)?;
         match kind {
             "a" => Some(LogKey::Agree(node, number_of(rest)?)),
-            "c" => Some(LogKey::Close(number_of(rest)?)),
+            "c" => Some(LogKey::Close(node, number_of(rest)?)),
+            "s" => rest.is_empty().then_some(LogKey::Seen(node)),
             "e" => {
                 let (lane, number) = rest.split_once('/')?;
                 let (incarnation, lane) = lane.split_once('.')?;
@@ -202,10 +225,12 @@ mod tests {
         let lane = Lane { of: Incarnation { node: name("a-1"), number: 300 }, number: 2 };
         assert_eq!(keys.entry(&lane, 17), b"/c/log/e/a-1/212c.02/111".to_vec());
         assert_eq!(keys.read(&keys.entry(&lane, 17)), Some(LogKey::Entry(lane, 17)));
-        assert_eq!(keys.read(&keys.close(&name("b"), 5)), Some(LogKey::Close(5)));
+        assert_eq!(keys.read(&keys.close(&name("b"), 5)), Some(LogKey::Close(name("b"), 5)));
+        assert_eq!(keys.read(&keys.seen(&name("b"))), Some(LogKey::Seen(name("b"))));
+        assert_eq!([keys.void(5), keys.boot()].map(|key| keys.read_void(&key)), [Some(5), None]);
         assert_eq!(keys.read(&keys.agreement(&name("b"), 5)), Some(LogKey::Agree(name("b"), 5)));
-        for wrong in ["/d/log/c/b/05", "/c/log/c/B/05", "/c/log/c/b/5", "/c/log/e/b/05.02", "/c/log/x/b/05", "/c/boot"]
-        {
+        let others = ["/d/log/c/b/05", "/c/log/c/B/05", "/c/log/c/b/5", "/c/log/e/b/05.02", "/c/log/x/b/05", "/c/boot"];
+        for wrong in others.into_iter().chain(["/c/log/s/b", "/c/log/s/b/05"]) {
             assert_eq!(keys.read(wrong.as_bytes()), None, "{wrong}");
         }
     }

@@ -27,6 +27,10 @@ pub trait Machine: Sized {
     type Call: Clone;
     /// What a call is answered.
     type Reply: Clone;
+    /// What a reader gets of a machine. By it nothing of the state is changed: a change that is in no log splits a node from the others.
+    type View<'m>
+    where
+        Self: 'm;
 
     /// The number of the rules that a new cluster begins with.
     const RULES: u64;
@@ -42,6 +46,9 @@ pub trait Machine: Sized {
 
     /// Plays a call.
     fn play(&mut self, call: &Self::Call) -> Self::Reply;
+
+    /// The machine, for a reader.
+    fn view(&mut self) -> Self::View<'_>;
 
     /// Whether a thread is there.
     fn is_live(&self, thread: u64) -> bool;

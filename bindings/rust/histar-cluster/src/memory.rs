@@ -39,6 +39,21 @@ impl Store {
     /// Puts a value under a key.
     pub fn put(&mut self, key: &[u8], value: &[u8], lease: Option<u64>) {
         self.revision += 1;
+        self.put_now(key, value, lease);
+    }
+
+    /// Does changes as one transaction does, at one revision: each key gets its value, or is deleted.
+    pub fn transact(&mut self, changes: &[(Vec<u8>, Option<Vec<u8>>)]) {
+        self.revision += 1;
+        for (key, value) in changes {
+            match value {
+                Some(value) => self.put_now(key, value, None),
+                None => self.delete_now(key.clone()),
+            }
+        }
+    }
+
+    fn put_now(&mut self, key: &[u8], value: &[u8], lease: Option<u64>) {
         let (revision, created) = (self.revision, self.last(key).map_or(self.revision, |version| version.created));
         self.puts.push(Event { key: key.to_vec(), value: value.to_vec(), revision, is_new: created == revision });
         let version = Version { revision, created, value: Some(value.to_vec()), lease };
@@ -47,11 +62,12 @@ impl Store {
 
     fn delete(&mut self, keys: Vec<Vec<u8>>) {
         self.revision += 1;
-        let revision = self.revision;
-        for key in keys {
-            let gone = Version { revision, created: 0, value: None, lease: None };
-            self.keys.entry(key).or_default().push(gone);
-        }
+        keys.into_iter().for_each(|key| self.delete_now(key));
+    }
+
+    fn delete_now(&mut self, key: Vec<u8>) {
+        let gone = Version { revision: self.revision, created: 0, value: None, lease: None };
+        self.keys.entry(key).or_default().push(gone);
     }
 
     /// The keys of a range at a revision.
@@ -92,23 +108,33 @@ impl Store {
                 Answer::Lease(self.next_lease)
             }
             Request::Keep { .. } => Answer::Kept,
-            Request::Drop { from, to, forget } => {
+            Request::Drop { from, to } => {
                 let gone = self.range(from, to, self.revision);
                 self.delete(gone.into_iter().map(|pair| pair.key).collect());
-                self.forgotten = self.forgotten.max(*forget);
+                Answer::Dropped
+            }
+            Request::Forget { before } => {
+                self.forgotten = self.forgotten.max(*before);
                 Answer::Dropped
             }
         }
     }
 
-    /// What a watch reports next: so many changes after a revision. None where they are forgotten.
+    /// What a watch reports next: so many changes after a revision, and what the last of them was put with. None where they are forgotten.
     pub fn changes(&self, from: &[u8], to: &[u8], after: u64, most: usize) -> Option<Vec<Event>> {
         if after < self.forgotten {
             return None;
         }
         let first = self.puts.partition_point(|event| event.revision <= after);
         let is_in = |event: &&Event| from <= &event.key[..] && &event.key[..] < to;
-        Some(self.puts[first..].iter().filter(is_in).take(most).cloned().collect())
+        let mut found: Vec<Event> = Vec::new();
+        for event in self.puts[first..].iter().filter(is_in) {
+            if found.len() >= most && found.last().is_some_and(|last| last.revision < event.revision) {
+                break;
+            }
+            found.push(event.clone());
+        }
+        Some(found)
     }
 
     /// Whether a value with these bytes was ever put.
@@ -179,7 +205,7 @@ const LOOK: Duration = Duration::from_millis(1);
 /// assert!(matches!(called.reply, Ok(Reply::Category(_))));
 /// let south: Running<Kernel> = Running::open(store, options("south"));
 /// south.reaches(called.note).unwrap();
-/// assert_eq!(south.read(|kernel| kernel.session().self_get().unwrap().label.pairs.len()), Ok(1));
+/// assert_eq!(south.read(|kernel| kernel.of(Thread::BOOT).self_get().unwrap().label.pairs.len()), Ok(1));
 /// ```
 #[derive(Clone)]
 pub struct Memory(Arc<Mutex<Store>>);

@@ -1,7 +1,7 @@
 //! A node as a state machine: what came in goes to a function, what is to be sent or told comes out of [`Node::next_output`]. It does no
 //! input or output and looks at no clock, so a simulation plays the same code as a program.
 use crate::agreements::Agreements;
-use crate::engine::{Answer, Request};
+use crate::engine::{Answer, Pair, Request};
 use crate::keys::{Key, Keys};
 use crate::receipt::{Fault, Note, Receipt};
 use crate::replica::Start;
@@ -40,6 +40,14 @@ pub struct Options {
     pub any: u64,
 }
 
+impl Options {
+    /// What a cluster is begun with by a node that is started so.
+    pub(crate) fn boot<M: Machine>(&self) -> Boot {
+        let (interval, limits) = (self.interval.max(1), self.limits.clone());
+        Boot { rules: M::RULES, interval, limits, first: self.node.clone() }
+    }
+}
+
 /// What a node wants done.
 #[derive(Debug)]
 pub enum Output<R> {
@@ -63,6 +71,7 @@ enum Purpose {
         lane: usize,
         number: u64,
     },
+    Point,
     /// It is asked until it is answered.
     Surely,
     /// It is asked once.
@@ -100,7 +109,7 @@ pub struct Status {
     pub incarnation: Option<u64>,
     /// How many submissions wait for their receipt.
     pub waiting: usize,
-    /// The last place for whose checkpoint the node lacked memory. It keeps its own keys up to the next one for which it does not.
+    /// After so many entries the node lacked memory for a checkpoint. It keeps its own keys up to the next one for which it does not.
     pub unwritten: Option<u64>,
     /// Why the engine does not do what the node asks, as that it has no space. What waits goes on once it does.
     pub trouble: Option<String>,
@@ -112,17 +121,25 @@ pub struct Node<M: Machine> {
     keys: Keys,
     phase: Phase<M>,
     engine: Option<u64>,
-    boot: Option<Boot>,
+    // What the cluster was begun with.
+    begun: Option<Pair>,
     reached: u64,
-    // The last marks that the node came by.
+    // The last marks that the node came by, by their numbers of entries.
     marks: BTreeMap<u64, Mark>,
     unwritten: Option<u64>,
     agreements: Agreements,
+    // The places up to which nodes have played.
+    seen: BTreeMap<Name, u64>,
+    // The number of entries of the point that the node has put.
+    said: Option<u64>,
     dropped: u64,
     drops: VecDeque<Request>,
+    forgotten: u64,
     writer: Writer,
     queue: VecDeque<Queued>,
     trouble: Option<String>,
+    // Why no member was reached.
+    unreached: Option<String>,
     ticks: u64,
     // The tick of the last answer.
     last_answer: u64,
@@ -137,28 +154,25 @@ impl<M: Machine> Node<M> {
     /// A node that begins: it boots the cluster, or restores and plays what the others have.
     pub fn new(options: Options) -> Node<M> {
         let keys = Keys::new(options.cluster.clone());
-        let boot = Boot {
-            rules: M::RULES,
-            interval: options.interval.max(1),
-            limits: options.limits.clone(),
-            first: options.node.clone(),
-        };
-        let first = Request::Put { key: keys.boot(), value: boot.bytes(), lease: None, only_new: true };
         let mut node = Node {
             options,
             keys,
             phase: Phase::Boots,
             engine: None,
-            boot: None,
+            begun: None,
             reached: 0,
             marks: BTreeMap::new(),
             unwritten: None,
             agreements: Agreements::default(),
+            seen: BTreeMap::new(),
+            said: None,
             dropped: 0,
             drops: VecDeque::new(),
+            forgotten: 0,
             writer: Writer::None,
             queue: VecDeque::new(),
             trouble: None,
+            unreached: None,
             ticks: 0,
             last_answer: 0,
             registrations: 0,
@@ -167,7 +181,7 @@ impl<M: Machine> Node<M> {
             again: Vec::new(),
             outputs: VecDeque::new(),
         };
-        node.ask(Purpose::Boot, first);
+        node.look_at_boot();
         node
     }
 
@@ -184,9 +198,9 @@ impl<M: Machine> Node<M> {
         }
     }
 
-    /// The machine, for calls that change nothing; none before it is booted and once the node has stopped.
-    pub fn machine(&mut self) -> Option<&mut M> {
-        self.state_mut().map(|state| &mut state.machine)
+    /// A view of the machine; none before it is booted and once the node has stopped.
+    pub fn view(&mut self) -> Option<M::View<'_>> {
+        self.state_mut().map(|state| state.machine.view())
     }
 
     /// Where a replica of the machine begins; nothing before it is booted and once the node has stopped.
@@ -205,12 +219,13 @@ impl<M: Machine> Node<M> {
     /// How the node is, unless it has not booted yet or has stopped.
     pub fn status(&self) -> Option<Status> {
         let state = self.state()?;
+        let point = state.point();
         let incarnation = self.writer.incarnation().map(|of| of.number);
         Some(Status {
             reached: self.reached,
-            entries: state.entries(),
+            entries: point.entries,
             rules: state.rules(),
-            digest: state.digest(),
+            digest: point.digest,
             incarnation,
             waiting: self.queue.len() + self.writer.waiting(),
             unwritten: self.unwritten,
@@ -221,7 +236,8 @@ impl<M: Machine> Node<M> {
     /// Why the engine does not do what the node asks, also before it has booted. What waits goes on once it does.
     pub fn trouble(&self) -> Option<String> {
         let is_silent = self.fault().is_none() && self.ticks >= self.last_answer + SILENT;
-        self.trouble.clone().or_else(|| is_silent.then(|| "no member of the engine answers".into()))
+        let why = self.unreached.as_ref().map(|why| format!(": {why}")).unwrap_or_default();
+        self.trouble.clone().or_else(|| is_silent.then(|| format!("no member of the engine answers{why}")))
     }
 
     fn state(&self) -> Option<&State<M>> {
@@ -260,19 +276,30 @@ impl<M: Machine> Node<M> {
         self.outputs.push_back(Output::Tell(ticket, receipt));
     }
 
-    /// Stops for good. Who waits is told nothing: a later start of the node can't know either.
+    /// Stops for good. Who waits is told nothing: a later start of the node can't know either. A node that has answered by another log than some
+    /// node's says so, as it can't know which of both was changed: then that one stops too.
     fn stop(&mut self, fault: Fault) {
-        self.phase = Phase::Stopped(fault);
+        let differs = matches!(fault, Fault::Differs { .. } | Fault::Gap { .. });
+        let last = self.state().filter(|_| differs && self.is_following()).map(|state| state.point().bytes());
         self.asked.clear();
         self.again.clear();
         self.outputs.clear();
+        if let Some(value) = last {
+            self.ask_put(Purpose::Point, self.keys.seen(&self.options.node), value, None);
+        }
+        self.phase = Phase::Stopped(fault);
     }
 
     /// An answer of the engine to the request of a number, with the identity of the engine's cluster.
     pub fn answer(&mut self, number: u64, engine: u64, answer: Answer) {
         let Some(asked) = self.asked.remove(&number) else { return };
-        if answer == Answer::Lost {
-            return self.lost(asked);
+        match answer {
+            Answer::Lost => return self.lost(asked),
+            Answer::Unreached(why) => {
+                self.unreached = Some(why);
+                return self.lost(asked);
+            }
+            _ => self.unreached = None,
         }
         self.last_answer = self.ticks;
         if let Answer::Refused(why) = answer {
@@ -311,6 +338,7 @@ impl<M: Machine> Node<M> {
         match asked.purpose {
             Purpose::Watch => self.watch_lost(),
             Purpose::Fence { .. } => self.writer = Writer::None, // (a fence that was put ends with its lease)
+            Purpose::Point => self.said = None,
             Purpose::Once => {}
             Purpose::Pages(pages) if pages.is_now_and_then() => {}
             _ => self.again.push(asked),
@@ -325,8 +353,12 @@ impl<M: Machine> Node<M> {
         }
         self.ticks += 1;
         for asked in std::mem::take(&mut self.again) {
-            if self.is_needed(&asked.purpose) {
-                self.ask(asked.purpose, asked.request);
+            match asked.purpose {
+                // (who begins the cluster may be an operator)
+                Purpose::Boot if self.ticks % LOOK > 0 => self.again.push(asked),
+                Purpose::Boot => self.look_at_boot(),
+                purpose if self.is_needed(&purpose) => self.ask(purpose, asked.request),
+                _ => {}
             }
         }
         if self.is_following() {

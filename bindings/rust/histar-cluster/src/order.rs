@@ -1,6 +1,7 @@
 //! Which entries count. It is a rule of the log and not of the engine: each node finds the same.
+use crate::entry::Short;
 use crate::keys::{Incarnation, Lane};
-use crate::spelling::{put_bytes, put_number, take_bytes, take_number};
+use crate::spelling::{put_bytes, put_number, take, take_bytes, take_number};
 use crate::Name;
 use std::collections::{BTreeMap, BTreeSet};
 
@@ -15,21 +16,28 @@ pub(crate) enum Turn {
     Gap,
 }
 
-/// The last number of each lane, and the closed incarnations. An incarnation below the floor is closed, unless some lane of it is known.
+/// The last entry of a lane: its number, and the digest of its bytes. Zeros before the first.
+#[derive(Clone, Copy, Default, PartialEq, Eq, Debug)]
+pub(crate) struct Last {
+    pub number: u64,
+    pub digest: Short,
+}
+
+/// The last entry of each lane, and the closed incarnations. An incarnation below the floor is closed, unless some lane of it is known.
 #[derive(Clone, Default, PartialEq, Eq, Debug)]
 pub(crate) struct Order {
-    last: BTreeMap<Lane, u64>,
+    last: BTreeMap<Lane, Last>,
     closed: BTreeSet<u64>,
     floor: u64,
 }
 
 impl Order {
-    pub fn last(&self, lane: &Lane) -> u64 {
-        self.last.get(lane).copied().unwrap_or(0)
+    pub fn last(&self, lane: &Lane) -> Last {
+        self.last.get(lane).copied().unwrap_or_default()
     }
 
-    /// All lanes with their last numbers.
-    pub fn lanes(&self) -> impl Iterator<Item = (&Lane, &u64)> {
+    /// All lanes with their last entries.
+    pub fn lanes(&self) -> impl Iterator<Item = (&Lane, &Last)> {
         self.last.iter()
     }
 
@@ -52,23 +60,32 @@ impl Order {
         self.last.keys().map(|lane| lane.of.number).filter(|number| !self.is_closed(*number)).collect()
     }
 
-    /// Whether a number of a lane is its next, which is played then.
-    pub fn turn(&mut self, lane: &Lane, number: u64) -> Turn {
-        let last = self.last(lane);
+    /// Whether a number of a lane is its next.
+    pub fn turn(&self, lane: &Lane, number: u64) -> Turn {
+        let last = self.last(lane).number;
         if !self.is_open(&lane.of) || number <= last {
             return Turn::Nothing;
         }
         if number != last + 1 {
             return Turn::Gap;
         }
-        self.last.insert(lane.clone(), number);
         Turn::Next
     }
 
-    pub fn close(&mut self, number: u64) {
-        if number >= self.floor || self.last.keys().any(|lane| lane.of.number == number) {
-            self.closed.insert(number);
-        }
+    /// The next entry of a lane is played.
+    pub fn goes_on(&mut self, lane: &Lane, digest: Short) {
+        let last = self.last.entry(lane.clone()).or_default();
+        *last = Last { number: last.number + 1, digest };
+    }
+
+    /// Whether an entry of an incarnation of this number has counted, and is not forgotten: who closes one has played such an entry.
+    pub fn is_known_number(&self, number: u64) -> bool {
+        self.last.keys().any(|lane| lane.of.number == number)
+    }
+
+    /// Closes an incarnation. False where it is closed.
+    pub fn close(&mut self, number: u64) -> bool {
+        self.closed.insert(number)
     }
 
     /// Forgets the closed incarnations below a floor, which rises.
@@ -86,7 +103,8 @@ impl Order {
         put_number(out, self.last.len() as u64);
         for (lane, last) in &self.last {
             put_bytes(out, lane.of.node.text().as_bytes());
-            [lane.of.number, lane.number, *last].iter().for_each(|number| put_number(out, *number));
+            [lane.of.number, lane.number, last.number].iter().for_each(|number| put_number(out, *number));
+            out.extend_from_slice(&last.digest);
         }
     }
 
@@ -99,7 +117,8 @@ impl Order {
             let node = std::str::from_utf8(take_bytes(bytes)?).ok().and_then(Name::new)?;
             let of = Incarnation { node, number: take_number(bytes)? };
             let lane = Lane { of, number: take_number(bytes)? };
-            order.last.insert(lane, take_number(bytes)?);
+            let last = Last { number: take_number(bytes)?, digest: take(bytes, 16)?.try_into().ok()? };
+            order.last.insert(lane, last);
         }
         Some(order)
     }
@@ -113,19 +132,29 @@ mod tests {
         Lane { of: Incarnation { node: Name::new("a").unwrap(), number }, number: 0 }
     }
 
+    /// Whether a number of a lane is its next, which is played then.
+    fn play(order: &mut Order, lane: &Lane, number: u64) -> Turn {
+        let turn = order.turn(lane, number);
+        if turn == Turn::Next {
+            order.goes_on(lane, [number as u8; 16]);
+        }
+        turn
+    }
+
     #[test]
     fn each_number_counts_once() {
         let mut order = Order::default();
-        let turns = [1, 1, 2, 4].map(|number| order.turn(&lane(7), number));
+        assert!(!order.is_known_number(7));
+        let turns = [1, 1, 2, 4].map(|number| play(&mut order, &lane(7), number));
         assert_eq!(turns, [Turn::Next, Turn::Nothing, Turn::Next, Turn::Gap]);
-        order.close(7);
+        assert_eq!([order.close(7), order.close(7)], [true, false]);
         assert_eq!(order.turn(&lane(7), 3), Turn::Nothing);
     }
 
     #[test]
     fn what_is_below_the_floor_stays_closed() {
         let mut order = Order::default();
-        assert_eq!([7, 8].map(|number| order.turn(&lane(number), 1)), [Turn::Next; 2]);
+        assert_eq!([7, 8].map(|number| play(&mut order, &lane(number), 1)), [Turn::Next; 2]);
         order.close(7);
         order.forget(9);
         assert_eq!([7, 8, 6].map(|number| order.is_open(&lane(number).of)), [false, true, false]);

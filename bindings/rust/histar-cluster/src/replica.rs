@@ -88,14 +88,14 @@ pub struct Replica<M> {
 }
 
 impl<M: Machine> Replica<M> {
-    /// The machine, once it has played all that the node's has. None where the node's is another one by now or is no more, or has played too
-    /// much since: then a replica has to begin anew.
+    /// A view of the machine, once it has played all that the node's has. None where the node's is another one by now or is no more, or has
+    /// played too much since: then a replica has to begin anew.
     #[inline]
-    pub fn machine(&mut self) -> Option<&mut M> {
+    pub fn view(&mut self) -> Option<M::View<'_>> {
         if self.place.0.get().is_some() && !self.catch_up() {
             return None;
         }
-        Some(&mut self.machine)
+        Some(self.machine.view())
     }
 
     /// Plays all that the node's machine has. False where it can't.

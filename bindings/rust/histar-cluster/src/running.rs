@@ -2,12 +2,13 @@
 use crate::engine::{Answer, Answers, Engine, Request, TakesAnswers};
 use crate::node::{Node, Options, Output, Status};
 use crate::receipt::{Fault, Note, Receipt, Told};
+use crate::waiting::{waiting, Teller, Waiting};
 use crate::{Item, Machine, Replica};
 use histar::trusted::{Record, Thread};
 use histar::{Call, Kernel, Refused, Reply};
 use std::collections::HashMap;
 use std::fmt;
-use std::sync::mpsc::{channel, sync_channel, Receiver, RecvTimeoutError, Sender, SyncSender};
+use std::sync::mpsc::{channel, RecvTimeoutError, Sender};
 use std::sync::{Arc, Condvar, Mutex, MutexGuard, PoisonError};
 use std::time::Duration;
 
@@ -21,13 +22,13 @@ struct Core<M: Machine> {
     node: Node<M>,
     asks: Option<Asks>,
     tickets: u64,
-    waiting: HashMap<u64, SyncSender<Receipt<M::Reply>>>,
+    waiting: HashMap<u64, Teller<M::Reply>>,
     // How many threads wait until the node goes on.
     watchers: usize,
 }
 
 /// A receipt, and where it goes.
-type Sent<R> = (SyncSender<Receipt<R>>, Receipt<R>);
+type Sent<R> = (Teller<R>, Receipt<R>);
 
 struct Shared<M: Machine> {
     core: Mutex<Core<M>>,
@@ -70,9 +71,7 @@ impl<M: Machine> Shared<M> {
         if is_watched {
             self.goes_on.notify_all();
         }
-        for (waiting, receipt) in told {
-            let _ = waiting.send(receipt); // (the caller may have stopped waiting)
-        }
+        told.into_iter().for_each(|(teller, receipt)| teller.tell(receipt));
         done
     }
 }
@@ -101,23 +100,6 @@ pub struct Running<M: Machine> {
 pub struct Reader<M: Machine> {
     node: Running<M>,
     replica: Replica<M>,
-}
-
-/// The receipt that a caller waits for.
-pub struct Waiting<R> {
-    receipt: Receiver<Receipt<R>>,
-}
-
-impl<R> Waiting<R> {
-    /// Waits for the receipt. None where the node stopped before it was known.
-    pub fn wait(self) -> Option<Receipt<R>> {
-        self.receipt.recv().ok()
-    }
-
-    /// The same, for so long at most. Nothing is promised where there is none yet: the items may still be played.
-    pub fn wait_for(&self, time: Duration) -> Option<Receipt<R>> {
-        self.receipt.recv_timeout(time).ok()
-    }
 }
 
 impl<M: Machine + Send + 'static> Running<M>
@@ -150,13 +132,13 @@ where
             if let Some(fault) = core.node.fault() {
                 return Err(Uncalled::Stopped(fault.clone()));
             }
-            let (sender, receipt) = sync_channel(1);
+            let (teller, waiting) = waiting();
             core.tickets += 1;
             if !core.node.submit(core.tickets, items) {
                 return Err(Uncalled::NoCall);
             }
-            core.waiting.insert(core.tickets, sender);
-            Ok(Waiting { receipt })
+            core.waiting.insert(core.tickets, teller);
+            Ok(waiting)
         })
     }
 
@@ -164,13 +146,13 @@ where
     ///
     /// # Errors
     /// Why the node has stopped.
-    pub fn read<T>(&self, read: impl FnOnce(&mut M) -> T) -> Result<T, Fault> {
-        if let Some(machine) = self.shared.core().node.machine() {
-            return Ok(read(machine));
+    pub fn read<T>(&self, read: impl FnOnce(M::View<'_>) -> T) -> Result<T, Fault> {
+        if let Some(view) = self.shared.core().node.view() {
+            return Ok(read(view));
         }
         let mut core = self.booted()?;
-        let machine = core.node.machine().unwrap_or_else(|| unreachable!("the node has booted"));
-        Ok(read(machine))
+        let view = core.node.view().unwrap_or_else(|| unreachable!("the node has booted"));
+        Ok(read(view))
     }
 
     /// A seat for a thread that reads.
@@ -192,7 +174,7 @@ where
 
     /// Waits until the node has a machine.
     fn booted(&self) -> Result<MutexGuard<'_, Core<M>>, Fault> {
-        self.until(|node| node.machine().is_some())
+        self.until(|node| node.view().is_some())
     }
 
     fn until(&self, holds: impl Fn(&mut Node<M>) -> bool) -> Result<MutexGuard<'_, Core<M>>, Fault> {
@@ -269,10 +251,10 @@ where
     /// # Errors
     /// As [`Running::reader`].
     #[inline]
-    pub fn read<T>(&mut self, read: impl FnOnce(&mut M) -> T) -> Result<T, Fault> {
+    pub fn read<T>(&mut self, read: impl FnOnce(M::View<'_>) -> T) -> Result<T, Fault> {
         loop {
-            if let Some(machine) = self.replica.machine() {
-                return Ok(read(machine));
+            if let Some(view) = self.replica.view() {
+                return Ok(read(view));
             }
             self.begin_anew()?;
         }
@@ -332,8 +314,26 @@ impl Running<Kernel> {
     /// # Errors
     /// Why it has no reply.
     pub fn call(&self, thread: Thread, call: &Call<'_>) -> Result<Called, Uncalled> {
+        let waiting = self.submits(thread, call)?;
+        self.called(waiting.wait())
+    }
+
+    /// The same, for a task of any runtime: its callers need no thread each.
+    ///
+    /// # Errors
+    /// As [`Running::call`].
+    pub async fn call_later(&self, thread: Thread, call: &Call<'_>) -> Result<Called, Uncalled> {
+        let waiting = self.submits(thread, call)?;
+        self.called(waiting.await)
+    }
+
+    fn submits(&self, thread: Thread, call: &Call<'_>) -> Result<Waiting<Result<Reply, Refused>>, Uncalled> {
         let record = Record::new(thread, call).map_err(|_| Uncalled::NoCall)?;
-        match self.submit(&[Item::Call(record)])?.wait() {
+        self.submit(&[Item::Call(record)])
+    }
+
+    fn called(&self, receipt: Option<Receipt<Result<Reply, Refused>>>) -> Result<Called, Uncalled> {
+        match receipt {
             Some(Receipt::Told { mut told, note }) => match told.pop() {
                 Some(Told::Reply(reply)) => Ok(Called { reply, note }),
                 _ => Err(Uncalled::OtherNode),

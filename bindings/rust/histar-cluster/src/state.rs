@@ -1,18 +1,22 @@
 //! The replicated state: what each node has after it played the log up to a place.
-use crate::entry::{self, Item};
+use crate::entry::{self, Head, Item};
+use crate::history::{History, Point};
 use crate::keys::{Keys, Lane, LogKey};
 use crate::order::{Order, Turn};
 use crate::replica::{Played, Start};
 use crate::sha256::{sha256, Digest};
-use crate::spelling::{put_bytes, put_number, take, take_bytes, take_number};
+use crate::spelling::{put_bytes, put_number, take_bytes, take_number};
 use crate::{Fault, Machine, Name, Told, Unrestored, Written};
-use std::collections::BTreeMap;
+use std::collections::{BTreeMap, BTreeSet};
 
 /// The thread that a machine boots with.
 const BOOT_THREAD: u64 = 2;
 
-/// The first byte of each checkpoint.
-const FORMAT: u8 = 1;
+/// The first byte of what a cluster boots with, and of each checkpoint.
+const FORMAT: u8 = 2;
+
+/// A mark stands after entries of so many bytes at the latest, so that a node that starts has no more to play than about that.
+const MARK_BYTES: usize = 16 << 20;
 
 /// A checkpoint of more bytes is not put: an engine takes no such value. etcd takes 1.5 MiB with a key, if it isn't told otherwise.
 pub(crate) const MOST_BYTES: usize = 1 << 20;
@@ -21,7 +25,7 @@ pub(crate) const MOST_BYTES: usize = 1 << 20;
 #[derive(Clone, PartialEq, Eq, Debug)]
 pub(crate) struct Boot {
     pub rules: u64,
-    /// A mark stands after so many entries.
+    /// A mark stands after so many entries, or fewer long ones.
     pub interval: u64,
     pub limits: Vec<u8>,
     /// The node that the boot thread belongs to.
@@ -38,19 +42,30 @@ impl Boot {
         out
     }
 
-    pub fn read(bytes: &[u8]) -> Option<Boot> {
-        let rest = &mut bytes.strip_prefix(&[FORMAT])?;
+    /// What a cluster boots with.
+    pub fn read(bytes: &[u8]) -> Result<Boot, Fault> {
+        match bytes.split_first() {
+            Some((&FORMAT, rest)) => Boot::take(rest).ok_or(Fault::OtherBoot),
+            Some((format, _)) => Err(Fault::OtherFormat(*format)),
+            None => Err(Fault::OtherBoot),
+        }
+    }
+
+    fn take(mut rest: &[u8]) -> Option<Boot> {
+        let rest = &mut rest;
         let (rules, interval, limits) = (take_number(rest)?, take_number(rest)?, take_bytes(rest)?.to_vec());
         let first = Name::new(std::str::from_utf8(take_bytes(rest)?).ok()?)?;
-        rest.is_empty().then_some(Boot { rules, interval, limits, first })
+        (rest.is_empty() && interval > 0).then_some(Boot { rules, interval, limits, first })
     }
 }
 
-/// The state at the place of each so many entries.
+/// The state after some entries.
 #[derive(Clone, Debug)]
 pub(crate) struct Mark {
+    pub entries: u64,
+    /// The place of the last of these.
     pub place: u64,
-    /// The node whose entry has the place.
+    /// The node that put it.
     pub writer: Name,
     /// The digest of the checkpoint, with which other nodes compare theirs.
     pub digest: Digest,
@@ -66,128 +81,174 @@ pub(crate) struct NoMemory;
 /// What came of a key of the log.
 pub(crate) enum Step<R> {
     /// An entry counted, and its items were answered.
-    Entry { lane: Lane, number: u64, told: Vec<Told<R>>, mark: Option<Result<Mark, NoMemory>> },
-    /// An incarnation was closed.
-    Closed,
-    /// A node has a digest of a place.
-    Agreed { node: Name, place: u64, digest: Digest },
+    Entry { lane: Lane, number: u64, told: Vec<Told<R>> },
+    /// An incarnation was closed by a node, which counts as an entry does.
+    Closed { by: Name },
+    /// A node has a digest after so many entries.
+    Agreed { node: Name, entries: u64, digest: Digest },
+    /// A node has played up to a point.
+    Seen { node: Name, point: Point },
     /// It counts for nothing.
     Nothing,
 }
 
-/// The replicated state. All of it but the keys is in a checkpoint.
+/// The replicated state. All of it but the keys, what is void and the history is in a checkpoint.
 pub(crate) struct State<M> {
     keys: Keys,
     boot: Boot,
+    // At these places an operator has the entries void: nothing of their incarnations counts from there on.
+    voids: BTreeSet<u64>,
     pub machine: M,
     pub order: Order,
     // Which node a thread belongs to. A thread that is gone may stand in it until the next mark.
     owners: BTreeMap<u64, Name>,
     rules: u64,
-    entries: u64,
-    // The place of the last entry, and that of the last mark.
-    pub place: u64,
+    // The points after the last entries: what an entry or a node has to agree with.
+    history: History,
+    // The place of the last mark, and how many entries and bytes have come after it.
     marked: u64,
-    // Of all entries and replies so far.
-    digest: Digest,
+    since: (u64, usize),
     played: Played,
 }
 
 impl<M: Machine> State<M> {
     /// The state of a newly booted cluster.
-    pub fn new(keys: Keys, boot: Boot) -> Result<State<M>, Fault> {
+    pub fn new(keys: Keys, boot: Boot, voids: BTreeSet<u64>) -> Result<State<M>, Fault> {
         let mut machine = M::boot(&boot.limits).map_err(Fault::NoMachine)?;
         if !machine.set_rules(boot.rules) {
-            return Err(Fault::UnknownRules(boot.rules));
+            return Err(Fault::UnknownRules { rules: boot.rules, place: 0 });
         }
         let owners = BTreeMap::from([(BOOT_THREAD, boot.first.clone())]);
-        Ok(State::begun(keys, boot, machine, owners))
-    }
-
-    /// The state of a machine before any entry.
-    fn begun(keys: Keys, boot: Boot, machine: M, owners: BTreeMap<u64, Name>) -> State<M> {
+        let first = Point { entries: 0, place: 0, digest: sha256(&boot.bytes()) };
         let rules = boot.rules;
-        State {
+        Ok(State {
             keys,
             boot,
+            voids,
             machine,
             order: Order::default(),
             owners,
             rules,
-            entries: 0,
-            place: 0,
+            history: History::new(first),
             marked: 0,
-            digest: [0; 32],
+            since: (0, 0),
             played: Played::default(),
-        }
+        })
     }
 
-    /// How many entries have counted.
-    pub fn entries(&self) -> u64 {
-        self.entries
-    }
-
-    /// The digest of all entries and replies so far.
-    pub fn digest(&self) -> Digest {
-        self.digest
+    /// The point up to which all is played.
+    pub fn point(&self) -> Point {
+        self.history.last()
     }
 
     pub fn rules(&self) -> u64 {
         self.rules
     }
 
-    /// Plays what stands at a place of the log. Places rise.
+    /// Whether what another node had played up to a point, as it says at a place, is what was played here. Of what it had played nothing has a
+    /// place that this node is not beyond.
+    pub fn agrees_with(&self, node: &Name, point: &Point, place: u64) -> Result<(), Fault> {
+        if self.history.has(point) {
+            return Ok(());
+        }
+        Err(Fault::Differs { node: node.clone(), entries: point.entries, place })
+    }
+
+    /// From here on what stands at a place is void. False where the node is beyond the place.
+    pub fn voids(&mut self, place: u64, reached: u64) -> bool {
+        self.voids.contains(&place) || (place > reached && self.voids.insert(place))
+    }
+
+    /// Plays what stands at a place of the log. Places rise, and what has one place comes by rising key.
     pub fn play(&mut self, place: u64, key: &[u8], value: &[u8]) -> Result<Step<M::Reply>, Fault> {
         match self.keys.read(key) {
             None => Ok(Step::Nothing),
-            Some(LogKey::Agree(node, of)) => match value.try_into() {
-                Ok(digest) => Ok(Step::Agreed { node, place: of, digest }),
+            Some(LogKey::Agree(node, entries)) => match value.try_into() {
+                Ok(digest) => Ok(Step::Agreed { node, entries, digest }),
                 Err(_) => Ok(Step::Nothing),
             },
-            Some(LogKey::Close(number)) => {
-                self.order.close(number);
-                Ok(Step::Closed)
+            Some(LogKey::Seen(node)) => {
+                Ok(Point::read(value).map_or(Step::Nothing, |point| Step::Seen { node, point }))
             }
-            // (an incarnation is older than its entries)
-            Some(LogKey::Entry(lane, _)) if lane.of.number >= place => Ok(Step::Nothing),
+            // (an incarnation is older than its entries, and than its closing)
+            Some(LogKey::Entry(Lane { of, .. }, _)) if of.number >= place => Ok(Step::Nothing),
+            Some(LogKey::Entry(Lane { of, .. }, _)) if self.voids.contains(&place) => {
+                Ok(self.counts_closed(of.number, of.node, place, key))
+            }
+            Some(LogKey::Close(by, number)) if number < place && self.order.is_known_number(number) => {
+                Ok(self.counts_closed(number, by, place, key))
+            }
+            Some(LogKey::Close(..)) => Ok(Step::Nothing),
             Some(LogKey::Entry(lane, number)) => match self.order.turn(&lane, number) {
                 Turn::Nothing => Ok(Step::Nothing),
-                Turn::Gap => Err(Fault::Gap),
+                Turn::Gap => Err(Fault::Gap { node: lane.of.node, place }),
                 Turn::Next => {
                     let told = self.play_entry(place, &lane, key, value)?;
-                    let mark = self.mark(&lane.of.node);
-                    Ok(Step::Entry { lane, number, told, mark })
+                    Ok(Step::Entry { lane, number, told })
                 }
             },
         }
     }
 
-    fn play_entry(&mut self, place: u64, lane: &Lane, key: &[u8], value: &[u8]) -> Result<Vec<Told<M::Reply>>, Fault> {
-        let mut trace = self.digest.to_vec();
+    /// Closes an incarnation, which counts as an entry does, unless it is closed.
+    fn counts_closed(&mut self, number: u64, by: Name, place: u64, key: &[u8]) -> Step<M::Reply> {
+        if !self.order.close(number) {
+            return Step::Nothing;
+        }
+        self.counts(place, key, &[0; 32], &[]);
+        Step::Closed { by }
+    }
+
+    /// What stands at a place counts: its key, the digest of its value, and what it was answered.
+    fn counts(&mut self, place: u64, key: &[u8], value: &Digest, answers: &[u8]) {
+        let mut trace = self.point().digest.to_vec();
         put_number(&mut trace, place);
         put_bytes(&mut trace, key);
-        put_bytes(&mut trace, value);
-        let (mut told, mut played) = (Vec::new(), Vec::new());
-        for item in entry::read::<M>(value).unwrap_or_default() {
-            let answer = self.play_item(&lane.of.node, &item)?;
-            if self.played.is_read() && !matches!(answer, Told::OtherNode) {
-                entry::add::<M>(&mut played, &item);
+        trace.extend_from_slice(value);
+        trace.extend_from_slice(answers);
+        self.history.add(place, sha256(&trace));
+        self.since.0 += 1;
+    }
+
+    fn play_entry(&mut self, place: u64, lane: &Lane, key: &[u8], value: &[u8]) -> Result<Vec<Told<M::Reply>>, Fault> {
+        let (mut told, mut played, mut answers) = (Vec::new(), Vec::new(), Vec::new());
+        if let Some((head, items)) = entry::read::<M>(value) {
+            self.follows(lane, place, &head)?;
+            for item in items {
+                let answer = self.play_item(&lane.of.node, place, &item)?;
+                if self.played.is_read() && !matches!(answer, Told::OtherNode) {
+                    entry::add::<M>(&mut played, &item);
+                }
+                match &answer {
+                    Told::Reply(reply) => M::put_reply(reply, &mut answers),
+                    Told::Done => answers.push(1),
+                    Told::OtherNode => answers.push(2),
+                }
+                told.push(answer);
             }
-            match &answer {
-                Told::Reply(reply) => M::put_reply(reply, &mut trace),
-                Told::Done => trace.push(1),
-                Told::OtherNode => trace.push(2),
-            }
-            told.push(answer);
         }
         self.played.add(played);
-        self.digest = sha256(&trace);
-        self.entries += 1;
-        self.place = place;
+        let digest = sha256(value);
+        self.order.goes_on(lane, entry::short(&digest));
+        self.counts(place, key, &digest, &answers);
+        self.since.1 += key.len() + value.len();
         Ok(told)
     }
 
-    fn play_item(&mut self, node: &Name, item: &Item<M::Call>) -> Result<Told<M::Reply>, Fault> {
+    /// Whether an entry follows what was played here: what its node had played, and the entry before it in its lane.
+    fn follows(&self, lane: &Lane, place: u64, head: &Head) -> Result<(), Fault> {
+        let point = self.history.after(head.entries);
+        let is_so = match point {
+            Some(point) => *head == Head::new(&point, &self.order.last(lane).digest),
+            None => head.entries <= self.point().entries, // (older than what this node can compare)
+        };
+        if is_so {
+            return Ok(());
+        }
+        Err(Fault::Differs { node: lane.of.node.clone(), entries: head.entries, place })
+    }
+
+    fn play_item(&mut self, node: &Name, place: u64, item: &Item<M::Call>) -> Result<Told<M::Reply>, Fault> {
         match item {
             Item::Call(call) => {
                 if self.is_others(M::thread(call), node) {
@@ -208,7 +269,7 @@ impl<M: Machine> State<M> {
             }
             Item::Rules(rules) => {
                 if !self.machine.set_rules(*rules) {
-                    return Err(Fault::UnknownRules(*rules));
+                    return Err(Fault::UnknownRules { rules: *rules, place });
                 }
                 self.rules = *rules;
                 Ok(Told::Done)
@@ -230,15 +291,16 @@ impl<M: Machine> State<M> {
         self.owners.get(&thread).is_some_and(|owner| owner != node)
     }
 
-    /// The mark at the place of the last entry, if one stands there. What nobody needs any more is forgotten at it, on each node alike.
-    fn mark(&mut self, writer: &Name) -> Option<Result<Mark, NoMemory>> {
-        if self.entries % self.boot.interval != 0 {
+    /// The mark after the last entry, which a node put, if one stands there. What nobody needs any more is forgotten at it, on each node alike.
+    pub fn mark(&mut self, writer: &Name) -> Option<Result<Mark, NoMemory>> {
+        if self.since.0 < self.boot.interval && self.since.1 < MARK_BYTES {
             return None;
         }
         let machine = &self.machine;
         self.owners.retain(|thread, _| machine.is_live(*thread));
         self.order.forget(self.marked);
-        self.marked = self.place;
+        self.marked = self.point().place;
+        self.since = (0, 0);
         Some(self.written(writer.clone()))
     }
 
@@ -251,14 +313,15 @@ impl<M: Machine> State<M> {
         };
         let digest = sha256(&bytes);
         let checkpoint = Some(bytes).filter(|bytes| is_begun_at && bytes.len() <= MOST_BYTES);
-        Ok(Mark { place: self.place, writer, digest, checkpoint })
+        let Point { entries, place, .. } = self.point();
+        Ok(Mark { entries, place, writer, digest, checkpoint })
     }
 
     /// The bytes of a checkpoint, with those of the machine.
     fn bytes(&self, machine: &[u8]) -> Vec<u8> {
         let mut out = vec![FORMAT];
-        [self.place, self.marked, self.entries, self.rules].iter().for_each(|number| put_number(&mut out, *number));
-        out.extend_from_slice(&self.digest);
+        out.extend_from_slice(&self.point().bytes());
+        [self.marked, self.rules].iter().for_each(|number| put_number(&mut out, *number));
         self.order.put(&mut out);
         put_number(&mut out, self.owners.len() as u64);
         for (thread, node) in &self.owners {
@@ -269,10 +332,10 @@ impl<M: Machine> State<M> {
         out
     }
 
-    /// The state of a checkpoint of this place.
-    pub fn restore(keys: Keys, boot: Boot, place: u64, bytes: &[u8]) -> Result<State<M>, Fault> {
-        let state = State::take(keys, boot, bytes).unwrap_or(Err(Fault::NoCheckpoint))?;
-        if state.place == place {
+    /// The state of a checkpoint after so many entries.
+    pub fn restore(&self, entries: u64, bytes: &[u8]) -> Result<State<M>, Fault> {
+        let state = self.take(bytes).unwrap_or(Err(Fault::NoCheckpoint))?;
+        if state.point().entries == entries {
             Ok(state)
         } else {
             Err(Fault::NoCheckpoint)
@@ -280,26 +343,29 @@ impl<M: Machine> State<M> {
     }
 
     /// The state of a checkpoint. None where the bytes are none.
-    fn take(keys: Keys, boot: Boot, bytes: &[u8]) -> Option<Result<State<M>, Fault>> {
+    fn take(&self, bytes: &[u8]) -> Option<Result<State<M>, Fault>> {
         let rest = &mut bytes.strip_prefix(&[FORMAT])?;
-        let (place, marked, entries, rules) =
-            (take_number(rest)?, take_number(rest)?, take_number(rest)?, take_number(rest)?);
-        let digest = take(rest, 32)?.try_into().ok()?;
+        let point = Point::take(rest)?;
+        let (marked, rules) = (take_number(rest)?, take_number(rest)?);
         let order = Order::take(rest)?;
         let mut owners = BTreeMap::new();
         for _ in 0..take_number(rest)? {
             let thread = take_number(rest)?;
             owners.insert(thread, Name::new(std::str::from_utf8(take_bytes(rest)?).ok()?)?);
         }
-        let restored = restored(&boot.limits, rules, rest);
+        let restored = restored(&self.boot.limits, rules, rest);
         Some(restored.map(|machine| State {
+            keys: self.keys.clone(),
+            boot: self.boot.clone(),
+            voids: self.voids.clone(),
+            machine,
             order,
+            owners,
             rules,
-            entries,
-            place,
+            history: History::new(point),
             marked,
-            digest,
-            ..State::begun(keys, boot, machine, owners)
+            since: (0, 0),
+            played: Played::default(),
         }))
     }
 }
@@ -313,6 +379,6 @@ pub(crate) fn restored<M: Machine>(limits: &[u8], rules: u64, state: &[u8]) -> R
     if machine.set_rules(rules) {
         Ok(machine)
     } else {
-        Err(Fault::UnknownRules(rules))
+        Err(Fault::UnknownRules { rules, place: 0 })
     }
 }

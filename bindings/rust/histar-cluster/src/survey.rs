@@ -1,6 +1,7 @@
 //! What an operator and an auditor read of a cluster's keys.
 use crate::agreements::Agreements;
 use crate::engine::Pair;
+use crate::history::Point;
 use crate::keys::{Keys, LogKey};
 use crate::receipt::Fault;
 use crate::sha256::{sha256, Digest};
@@ -8,7 +9,7 @@ use crate::spelling::take_number;
 use crate::state::{Boot, State, Step};
 use crate::Name;
 use histar::{Keep, Kernel, Refused};
-use std::collections::BTreeMap;
+use std::collections::{BTreeMap, BTreeSet};
 use std::fmt;
 
 /// A node with a fence.
@@ -18,8 +19,17 @@ pub struct Standing {
     pub node: Name,
     /// Its incarnation.
     pub incarnation: u64,
-    /// How far it had played when it last said so.
+    /// The place up to which it had played when it last said so.
     pub reached: u64,
+}
+
+/// What nodes say of one number of entries.
+#[derive(Clone, PartialEq, Eq, Debug)]
+pub struct Opinion {
+    /// The number of entries.
+    pub entries: u64,
+    /// The nodes.
+    pub nodes: Vec<Name>,
 }
 
 /// A cluster, as its keys tell it.
@@ -37,19 +47,21 @@ pub struct Survey {
     pub bytes: u64,
     /// The greatest place of a key of the log.
     pub last: u64,
-    /// The greatest place that two nodes agree on, with how many do; or on which two differ.
-    pub agreed: Option<(u64, usize)>,
-    /// A place on which nodes differ.
-    pub disputed: Option<u64>,
-    /// The places of the checkpoints.
+    /// The greatest number of entries after which two nodes agree.
+    pub agreed: Option<Opinion>,
+    /// The greatest number of entries after which nodes differ.
+    pub disputed: Option<Opinion>,
+    /// After how many entries checkpoints are there.
     pub checkpoints: Vec<u64>,
+    /// The places that are void.
+    pub voids: Vec<u64>,
 }
 
 impl Survey {
     /// Reads all keys of a cluster: those that [`range`] tells, at one revision.
     pub fn of(cluster: &Name, pairs: &[Pair]) -> Survey {
         let keys = Keys::new(cluster.clone());
-        let boot = pairs.iter().find(|pair| pair.key == keys.boot()).and_then(|pair| Boot::read(&pair.value));
+        let boot = begun(&keys, pairs).ok();
         let mut survey = Survey {
             rules: boot.as_ref().map(|boot| boot.rules),
             first: boot.map(|boot| boot.first),
@@ -60,35 +72,70 @@ impl Survey {
             agreed: None,
             disputed: None,
             checkpoints: Vec::new(),
+            voids: Vec::new(),
         };
-        let mut digests: BTreeMap<u64, Vec<&[u8]>> = BTreeMap::new();
+        let mut said: Said<'_> = BTreeMap::new();
         for pair in pairs {
-            if let Some(place) = keys.read_state(&pair.key) {
-                survey.checkpoints.push(place);
+            if let Some(entries) = keys.read_state(&pair.key) {
+                survey.checkpoints.push(entries);
+            } else if let Some(place) = keys.read_void(&pair.key) {
+                survey.voids.push(place);
             } else if let Some(node) = keys.read_fence(&pair.key) {
                 let reached = take_number(&mut &pair.value[..]).unwrap_or(0);
                 survey.standing.push(Standing { node, incarnation: pair.created, reached });
             } else if let Some(key) = keys.read(&pair.key) {
-                survey.last = survey.last.max(pair.created);
-                match key {
-                    LogKey::Entry(lane, _) => {
-                        *survey.entries.entry(lane.of.node).or_insert(0) += 1;
-                        survey.bytes += (pair.key.len() + pair.value.len()) as u64;
-                    }
-                    LogKey::Agree(_, place) => digests.entry(place).or_default().push(&pair.value),
-                    LogKey::Close(_) => {}
-                }
+                survey.takes(key, pair, &mut said);
             }
         }
-        for (place, found) in digests {
-            match found.iter().all(|digest| *digest == found[0]) {
-                false => survey.disputed = Some(place),
-                true if found.len() >= 2 => survey.agreed = Some((place, found.len())),
+        survey.concludes(said);
+        survey
+    }
+
+    /// Takes a key of the log.
+    fn takes<'p>(&mut self, key: LogKey, pair: &'p Pair, said: &mut Said<'p>) {
+        self.last = self.last.max(pair.created);
+        match key {
+            LogKey::Entry(lane, _) => {
+                *self.entries.entry(lane.of.node).or_insert(0) += 1;
+                self.bytes += (pair.key.len() + pair.value.len()) as u64;
+            }
+            LogKey::Agree(node, entries) => said.entry((entries, true)).or_default().push((node, &pair.value)),
+            LogKey::Seen(node) => {
+                let Some(point) = Point::read(&pair.value) else { return };
+                said.entry((point.entries, false)).or_default().push((node.clone(), &pair.value));
+                for it in self.standing.iter_mut().filter(|it| it.node == node) {
+                    it.reached = it.reached.max(point.place);
+                }
+            }
+            LogKey::Close(..) => {}
+        }
+    }
+
+    fn concludes(&mut self, said: Said<'_>) {
+        for ((entries, _), found) in said {
+            let nodes: Vec<Name> = found.iter().map(|(node, _)| node.clone()).collect();
+            let opinion = Opinion { entries, nodes };
+            match found.iter().all(|(_, value)| *value == found[0].1) {
+                false => self.disputed = Some(opinion),
+                true if found.len() >= 2 => self.agreed = Some(opinion),
                 true => {}
             }
         }
-        survey
     }
+}
+
+/// What nodes have put of so many entries: digests of states, and points.
+type Said<'p> = BTreeMap<(u64, bool), Vec<(Name, &'p [u8])>>;
+
+/// What a cluster was begun with.
+fn begun(keys: &Keys, pairs: &[Pair]) -> Result<Boot, Fault> {
+    let boot = pairs.iter().find(|pair| pair.key == keys.boot()).ok_or(Fault::OtherBoot)?;
+    Boot::read(&boot.value)
+}
+
+/// Names with commas.
+fn listed(nodes: &[Name]) -> String {
+    nodes.iter().map(Name::to_string).collect::<Vec<_>>().join(", ")
 }
 
 /// A line a node, and some of the whole.
@@ -114,9 +161,9 @@ impl fmt::Display for Survey {
             "log of {entries} entries and {} bytes, last place {}, begun with rules {rules}",
             self.bytes, self.last
         )?;
-        match (self.disputed, self.agreed) {
-            (Some(place), _) => writeln!(f, "NODES DIFFER at place {place}"),
-            (None, Some((place, nodes))) => writeln!(f, "{nodes} nodes agree at place {place}"),
+        match (&self.disputed, &self.agreed) {
+            (Some(it), _) => writeln!(f, "NODES DIFFER after {} entries: {}", it.entries, listed(&it.nodes)),
+            (None, Some(it)) => writeln!(f, "nodes agree after {} entries: {}", it.entries, listed(&it.nodes)),
             (None, None) => writeln!(f, "no two nodes agree yet"),
         }
     }
@@ -136,55 +183,63 @@ pub fn range(cluster: &Name) -> (Vec<u8>, Vec<u8>) {
 struct Log<'p> {
     keys: Keys,
     boot: Boot,
+    voids: BTreeSet<u64>,
     // By rising place.
     pairs: Vec<&'p Pair>,
-    // The places that two nodes agree on, by rising place.
+    // After how many entries two nodes agree, by rising number.
     agreed: Vec<(u64, Digest, Name)>,
 }
 
-/// The place and the bytes of a checkpoint; none for the boot.
+/// The number of entries and the bytes of a checkpoint; none for the boot.
 type Start<'p> = Option<(u64, &'p [u8])>;
 
 impl<'p> Log<'p> {
     fn new(cluster: &Name, pairs: &'p [Pair]) -> Result<Log<'p>, Fault> {
         let keys = Keys::new(cluster.clone());
-        let boot = pairs.iter().find(|pair| pair.key == keys.boot()).and_then(|pair| Boot::read(&pair.value));
+        let boot = begun(&keys, pairs)?;
+        let voids = pairs.iter().filter_map(|pair| keys.read_void(&pair.key)).collect();
         let mut agreements = Agreements::default();
         for pair in pairs {
-            if let (Some(LogKey::Agree(node, place)), Ok(digest)) = (keys.read(&pair.key), pair.value[..].try_into()) {
-                agreements.add(node, place, digest);
+            if let (Some(LogKey::Agree(node, entries)), Ok(digest)) = (keys.read(&pair.key), pair.value[..].try_into())
+            {
+                agreements.add(node, entries, digest);
             }
         }
         let mut pairs: Vec<&Pair> = pairs.iter().collect();
-        pairs.sort_by_key(|pair| pair.created);
-        Ok(Log { keys, boot: boot.ok_or(Fault::OtherBoot)?, pairs, agreed: agreements.above(0) })
+        pairs.sort_by_key(|pair| (pair.created, &pair.key));
+        Ok(Log { keys, boot, voids, pairs, agreed: agreements.above(0) })
     }
 
     /// Where a replay may begin, the first place first.
     fn starts(&self) -> Vec<Start<'p>> {
-        let checkpoints = self.agreed.iter().filter_map(|(place, digest, node)| {
-            let key = self.keys.state(node, *place);
+        let checkpoints = self.agreed.iter().filter_map(|(entries, digest, node)| {
+            let key = self.keys.state(node, *entries);
             let found = self.pairs.iter().find(|pair| pair.key == key && sha256(&pair.value) == *digest)?;
-            Some((*place, &found.value[..]))
+            Some((*entries, &found.value[..]))
         });
         std::iter::once(None).chain(checkpoints.map(Some)).collect()
     }
 
     fn state(&self, start: Start<'_>) -> Result<State<Kernel>, Fault> {
-        let (keys, boot) = (self.keys.clone(), self.boot.clone());
+        let state = State::new(self.keys.clone(), self.boot.clone(), self.voids.clone())?;
         match start {
-            None => State::new(keys, boot),
-            Some((place, bytes)) => State::restore(keys, boot, place, bytes),
+            None => Ok(state),
+            Some((entries, bytes)) => state.restore(entries, bytes),
         }
     }
 
-    /// Plays what comes after a state. The digests of the marks.
+    /// Plays what comes after a state. The digests of the marks, by the numbers of entries.
     fn play(&self, state: &mut State<Kernel>) -> Result<Vec<(u64, Digest)>, Fault> {
-        let place = state.place;
+        let place = state.point().place;
         let mut marks = Vec::new();
-        for pair in self.pairs.iter().filter(|pair| pair.created > place) {
-            if let Step::Entry { mark: Some(Ok(mark)), .. } = state.play(pair.created, &pair.key, &pair.value)? {
-                marks.push((mark.place, mark.digest));
+        for pair in self.pairs.iter().filter(|pair| pair.created >= place) {
+            let writer = match state.play(pair.created, &pair.key, &pair.value)? {
+                Step::Entry { lane, .. } => lane.of.node,
+                Step::Closed { by } => by,
+                _ => continue,
+            };
+            if let Some(Ok(mark)) = state.mark(&writer) {
+                marks.push((mark.entries, mark.digest));
             }
         }
         Ok(marks)
@@ -193,9 +248,9 @@ impl<'p> Log<'p> {
     /// Whether what is left of the log after a start leads to the last state that two nodes agree on.
     fn check(&self, start: Start<'_>) -> Result<(), Fault> {
         let marks = self.play(&mut self.state(start)?)?;
-        let begins_at = |place| start.is_some_and(|(start, _)| start == place);
+        let begins_at = |entries| start.is_some_and(|(start, _)| start == entries);
         match self.agreed.last() {
-            Some((place, digest, _)) if !begins_at(*place) && !marks.contains(&(*place, *digest)) => {
+            Some((entries, digest, _)) if !begins_at(*entries) && !marks.contains(&(*entries, *digest)) => {
                 Err(Fault::NoCheckpoint)
             }
             _ => Ok(()),

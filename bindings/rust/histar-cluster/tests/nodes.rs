@@ -4,11 +4,11 @@ mod model;
 
 use histar_cluster::engine::{Answer, Answers, Engine, Request};
 use histar_cluster::memory::{Memory, Store};
-use histar_cluster::{Fault, Item, Name, Node, Options, Output, Receipt, Running, Told, Uncalled};
+use histar_cluster::{beginning, void, Fault, Item, Name, Node, Options, Output, Receipt, Running, Told, Uncalled};
 use model::{Call, Model, Reply};
 use std::collections::{BTreeSet, VecDeque};
 use std::sync::atomic::{AtomicBool, AtomicU64, Ordering};
-use std::time::Duration;
+use std::time::{Duration, Instant};
 
 fn name(text: &str) -> Name {
     Name::new(text).expect("a name")
@@ -47,11 +47,16 @@ fn told(node: &Running<Model>, items: &[Item<Call>]) -> Vec<Told<Reply>> {
 
 /// Waits until a node has stopped.
 fn stops(node: &Running<Model>) -> Fault {
-    loop {
-        if let Some(fault) = node.fault() {
-            return fault;
-        }
-        std::thread::yield_now();
+    until(|| node.fault().is_some());
+    node.fault().expect("a fault")
+}
+
+/// Waits until something holds, for a minute at most.
+fn until(mut holds: impl FnMut() -> bool) {
+    let end = Instant::now() + Duration::from_secs(60);
+    while !holds() {
+        assert!(Instant::now() < end, "it does not come");
+        std::thread::sleep(Duration::from_millis(5));
     }
 }
 
@@ -260,9 +265,11 @@ fn unknown_rules_stop_each_node_at_their_place() {
     let mut reader = north.reader().expect("a reader");
     assert_eq!(reader.read(|model| model.replies.len()), Ok(0));
     let waiting = north.submit(&[call(2, 1, 0), Item::Rules(3)]).expect("a node that runs");
-    assert_eq!((waiting.wait(), stops(&north), stops(&south)), (None, Fault::UnknownRules(3), Fault::UnknownRules(3)));
-    assert_eq!(north.latest(), Err(Uncalled::Stopped(Fault::UnknownRules(3))));
-    assert_eq!(reader.read(|model| model.replies.len()), Err(Fault::UnknownRules(3)));
+    let Fault::UnknownRules { rules: 3, place } = stops(&north) else { panic!("{:?}", north.fault()) };
+    let fault = Fault::UnknownRules { rules: 3, place };
+    assert_eq!((waiting.wait(), stops(&south)), (None, fault.clone()));
+    assert_eq!(north.latest(), Err(Uncalled::Stopped(fault.clone())));
+    assert_eq!(reader.read(|model| model.replies.len()), Err(fault));
 }
 
 #[test]
@@ -287,7 +294,7 @@ fn a_gap_stops_each_node() {
     let north = open(&store, "north");
     told(&north, &[call(2, 1, 0)]);
     with(&store, |store| store.put(b"/c/log/e/south/02.00/02", b"\x01", None));
-    assert_eq!(stops(&north), Fault::Gap);
+    assert!(matches!(stops(&north), Fault::Gap { node, .. } if node == name("south")));
 }
 
 #[test]
@@ -302,7 +309,7 @@ fn another_state_at_a_place_stops_a_node() {
         }
     };
     with(&store, |store| store.put(agreement.replace("north", "south").as_bytes(), &[7; 32], None));
-    assert!(matches!(stops(&north), Fault::Differs(_)));
+    assert!(matches!(stops(&north), Fault::Differs { node, entries: 4, .. } if node == name("south")));
 }
 
 #[test]
@@ -381,4 +388,234 @@ fn the_log_is_dropped_where_two_nodes_agree() {
     east.latest().expect("a note");
     assert!(east.read(|model| (1..=number).all(|it| model.replies.contains_key(&it))).expect("a machine"));
     assert_eq!(south.fault(), None);
+}
+
+/// Nodes that have seen all that any of them has put are in one state, or one of them has stopped.
+fn are_alike_or_stop(nodes: &[&Running<Model>]) {
+    let end = Instant::now() + Duration::from_secs(10);
+    while Instant::now() < end {
+        if nodes.iter().any(|node| node.fault().is_some()) {
+            return;
+        }
+        std::thread::sleep(Duration::from_millis(20));
+    }
+    let notes: Vec<_> = nodes.iter().map(|node| node.latest()).collect();
+    if let Some(last) = notes.into_iter().collect::<Result<Vec<_>, _>>().ok().and_then(|notes| notes.into_iter().max())
+    {
+        if nodes.iter().all(|node| node.reaches(last).is_ok()) {
+            let states: Vec<_> = nodes.iter().map(|it| it.status().map(|it| (it.entries, it.digest))).collect();
+            assert!(states.iter().all(|state| *state == states[0]), "{states:?}");
+        }
+    }
+}
+
+/// The first entry of a lane of a node that lies.
+fn lie(lane: u64) -> Vec<u8> {
+    format!("/c/log/e/evil/02.0{lane}/01").into_bytes()
+}
+
+#[test]
+fn entries_of_one_transaction_are_played_alike() {
+    let store = Memory::new();
+    let (north, south) = north_and_south(&store);
+    told(&north, &[call(2, 1, 0)]);
+    with(&store, |store| store.transact(&[(lie(1), Some(b"x".to_vec())), (lie(0), Some(b"y".to_vec()))]));
+    told(&north, &[call(2, 2, 0)]);
+    let east = open(&store, "east");
+    are_alike_or_stop(&[&north, &south, &east]);
+}
+
+#[test]
+fn an_entry_that_is_deleted_or_changed_is_told_of() {
+    for left in [None, Some(b"other".to_vec())] {
+        let store = Memory::new();
+        let (north, south) = north_and_south(&store);
+        told(&north, &[call(2, 1, 0)]);
+        with(&store, |store| store.put(&lie(0), b"x", None));
+        told(&north, &[call(2, 2, 0)]);
+        with(&store, |store| store.transact(&[(lie(0), left)]));
+        let east = open(&store, "east");
+        are_alike_or_stop(&[&north, &south, &east]);
+    }
+}
+
+#[test]
+fn what_the_cluster_began_with_is_not_changed() {
+    let (key, value) = beginning::<Model>(&options("south"));
+    for changed in [Some(value), Some(b"\x02".to_vec()), None] {
+        let store = Memory::new();
+        let (north, south) = north_and_south(&store);
+        south.latest().expect("a note");
+        with(&store, |store| store.transact(&[(key.clone(), changed)]));
+        assert_eq!([stops(&north), stops(&south)], [Fault::OtherBoot, Fault::OtherBoot]);
+    }
+}
+
+#[test]
+fn a_node_takes_the_cluster_that_an_operator_began() {
+    let store = Memory::new();
+    let (key, value) = beginning::<Model>(&options("south"));
+    with(&store, |store| store.put(&key, &value, None));
+    let (north, south) = (open(&store, "north"), open(&store, "south"));
+    assert_eq!(told(&north, &[call(2, 1, 0)]), [Told::OtherNode]);
+    assert!(matches!(told(&south, &[call(2, 1, 0)])[0], Told::Reply(_)));
+}
+
+#[test]
+fn a_cluster_of_an_older_format_is_refused() {
+    let store = Memory::new();
+    let (key, mut value) = beginning::<Model>(&options("north"));
+    value[0] = 1;
+    with(&store, |store| store.put(&key, &value, None));
+    let fault = stops(&open(&store, "north"));
+    assert_eq!(fault, Fault::OtherFormat(1));
+    assert_eq!(fault.to_string(), "the cluster was begun in format 1, which this node does not know");
+}
+
+/// The place at which a node has stopped.
+fn stopped_at(node: &Running<Model>) -> u64 {
+    match stops(node) {
+        Fault::Gap { place, .. } | Fault::UnknownRules { place, .. } | Fault::Differs { place, .. } => place,
+        fault => panic!("{fault}"),
+    }
+}
+
+#[test]
+fn a_cluster_goes_on_once_what_stopped_it_is_void() {
+    let gap = |store: &Memory| with(store, |store| store.put(b"/c/log/e/evil/02.00/02", b"x", None));
+    let rules = |store: &Memory| {
+        let evil = open(store, "evil");
+        drop(evil.submit(&[Item::Rules(99)]).expect("a node that runs"));
+        until(|| store.store().has_put(&[2, 99]));
+    };
+    let differs = |store: &Memory| {
+        let value = [&[2, 0][..], &[7; 16]].concat();
+        with(store, |store| store.put(b"/c/log/e/evil/02.00/01", &value, None));
+    };
+    for stop in [&gap as &dyn Fn(&Memory), &rules, &differs] {
+        let store = Memory::new();
+        let (north, south) = north_and_south(&store);
+        let first = told(&north, &[call(2, 1, 0)]);
+        stop(&store);
+        let place = stopped_at(&north);
+        assert_eq!(stopped_at(&south), place);
+        assert_eq!(stopped_at(&open(&store, "north")), place);
+        with(&store, |store| store.put(&void(&name("c"), place), b"", None));
+        let (north, south) = (open(&store, "north"), open(&store, "south"));
+        told(&north, &[call(2, 2, 0)]);
+        south.reaches(north.latest().expect("a note")).expect("a node that runs");
+        for node in [&north, &south] {
+            let reply = node.read(|model| model.replies.get(&1).cloned()).expect("a machine");
+            assert_eq!(reply.map(Told::Reply).as_slice(), &first[..]);
+        }
+        // (what a node has played is void for nobody)
+        let played = north.latest().expect("a note").place;
+        with(&store, |store| store.put(&void(&name("c"), played), b"", None));
+        assert_eq!([stops(&north), stops(&south)], [Fault::OtherBoot, Fault::OtherBoot]);
+    }
+}
+
+#[test]
+fn a_cluster_in_which_nothing_happens_puts_nothing() {
+    let store = Memory::new();
+    let (north, south) = north_and_south(&store);
+    told(&north, &[call(2, 1, 0)]);
+    south.latest().expect("a note");
+    // (a node looks around each second)
+    let mut before = 0;
+    until(|| {
+        std::thread::sleep(Duration::from_secs(4));
+        let revision = store.store().revision;
+        std::mem::replace(&mut before, revision) == revision
+    });
+}
+
+#[test]
+fn long_entries_are_marked_sooner() {
+    let store = Memory::new();
+    let seldom = Options { interval: 1 << 40, ..options("north") };
+    let north: Running<Model> = Running::open(store.clone(), seldom);
+    told(&north, &[call(2, 1, 0)]);
+    for number in 1..=16 {
+        let spelled = if number < 16 { format!("0{number:x}") } else { format!("1{number:x}") };
+        with(&store, |store| store.put(format!("/c/log/e/evil/02.00/{spelled}").as_bytes(), &vec![7; 1 << 20], None));
+    }
+    told(&north, &[call(2, 2, 0)]);
+    until(|| !store.store().range(b"/c/log/a/", b"/c/log/a0", u64::MAX).is_empty());
+}
+
+/// What docs/CLUSTER.md says that a liar can: take back a call that was told, if its node dies before it has said what it had played.
+#[test]
+fn a_call_is_taken_back_before_its_node_has_said_so_and_not_after() {
+    let runs = |says: bool| {
+        let store = Memory::new();
+        let north = open(&store, "north");
+        told(&north, &[call(2, 1, 0)]);
+        with(&store, |store| store.put(&lie(0), b"x", None));
+        told(&north, &[call(2, 2, 0)]);
+        if says {
+            told(&north, &[call(2, 3, 0)]);
+        }
+        drop(north);
+        with(&store, |store| store.transact(&[(lie(0), None)]));
+        let north = open(&store, "north");
+        north.latest().err()
+    };
+    assert!(matches!(runs(true), Some(Uncalled::Stopped(Fault::Differs { .. }))));
+    until(|| runs(false).is_none()); // (it says so each second)
+}
+
+/// A mark may stand between two entries of one transaction, and a node that lies may put its checkpoint.
+#[test]
+fn a_node_begins_between_two_entries_of_one_transaction() {
+    let store = Memory::new();
+    let (north, south) = north_and_south(&store);
+    let evil = open(&store, "evil");
+    let last = [&north, &south, &evil].map(|node| node.latest().expect("a note")).into_iter().max().expect("a note");
+    [&north, &south, &evil].iter().for_each(|node| node.reaches(last).expect("a node that runs"));
+    // (states are compared after each four entries)
+    let entries = north.status().expect("a status").entries;
+    let puts: Vec<_> = (0..6 + (4 - entries % 4)).map(|lane| (lie(lane), Some(b"x".to_vec()))).collect();
+    with(&store, |store| store.transact(&puts));
+    let marked = entries + puts.len() as u64 - 2;
+    let found = |of: &str| {
+        let key = format!("/c/{of}/{}", spelled(marked));
+        !store.store().range(key.as_bytes(), format!("{key}~").as_bytes(), u64::MAX).is_empty()
+    };
+    until(|| ["state/evil", "log/a/evil", "log/a/north", "log/a/south"].iter().all(|of| found(of)));
+    let east = open(&store, "east");
+    let note = east.latest().expect("a note");
+    south.reaches(note).expect("a node that runs");
+    assert_eq!(south.status().map(|it| it.digest), east.status().map(|it| it.digest));
+}
+
+/// A number as keys spell it.
+fn spelled(number: u64) -> String {
+    let digits = format!("{number:x}");
+    format!("{:x}{digits}", digits.len() - 1)
+}
+
+#[test]
+fn a_cluster_goes_on_once_a_false_digest_is_deleted() {
+    for key in ["/c/log/s/evil/", "/c/log/a/evil/04"] {
+        let store = Memory::new();
+        let (north, south) = north_and_south(&store);
+        let first = told(&north, &[call(2, 1, 0)]);
+        let value = if key.contains("/s/") { [&[1, 1][..], &[7; 32]].concat() } else { vec![7; 32] };
+        with(&store, |store| store.put(key.as_bytes(), &value, None));
+        for number in 2.. {
+            let waiting = north.submit(&[call(2, number, 0)]);
+            if waiting.is_err() || waiting.is_ok_and(|it| it.wait().is_none()) {
+                break;
+            }
+        }
+        for node in [&north, &south] {
+            assert!(matches!(stops(node), Fault::Differs { node, .. } if node == name("evil")), "{:?}", node.fault());
+        }
+        with(&store, |store| store.transact(&[(key.into(), None)]));
+        let (north, south) = (open(&store, "north"), open(&store, "south"));
+        south.reaches(north.latest().expect("a note")).expect("a node that runs");
+        let reply = south.read(|model| model.replies.get(&1).cloned()).expect("a machine");
+        assert_eq!(reply.map(Told::Reply).as_slice(), &first[..]);
+    }
 }

@@ -1,6 +1,7 @@
-//! For tests of faults: a node whose callers make threads and cut them off again, and a check of what they were told.
+//! For tests of faults: a node whose callers make threads and cut them off again, and a check of what they were told. Where HISTAR_TLS names a
+//! folder, all connect by TLS: it has the certificate and the key of each node and of the operator, who begins the cluster.
 //!
-//! `caller prepare CLUSTER MEMBERS NODE..` begins the cluster as the first node, and prints a thread for each, which belongs to it.
+//! `caller prepare CLUSTER MEMBERS NODE..` is the first node, which begins the cluster if nobody has, and prints a thread for each, which belongs to it.
 //! `caller run CLUSTER MEMBERS NODE THREAD FILE CALLERS SECONDS` writes a line into FILE before each call and one after it.
 //! `caller check CLUSTER MEMBERS THREADS DUMP` keeps what is put into the log, of which the nodes drop nothing before. Once it is told the names
 //! of the files, a line each, it plays the whole log, says what of the files it does not have, and writes it into DUMP.
@@ -17,7 +18,7 @@ use histar::{label, Call, Entry, Kernel, Limits, Object, Refused, Reply};
 use histar_cluster::engine::{Engine, Pair};
 use histar_cluster::memory::Memory;
 use histar_cluster::{audit, limits, range, Item, Machine, Name, Options, Receipt, Running, Told, Unrestored, Written};
-use histar_etcd::Etcd;
+use histar_etcd::{tls, Etcd, Files};
 use std::collections::{BTreeMap, HashMap};
 use std::fs::File;
 use std::io::Write;
@@ -36,6 +37,7 @@ struct Probe {
 impl Machine for Probe {
     type Call = Record;
     type Reply = Result<Reply, Refused>;
+    type View<'m> = &'m mut Probe;
     const RULES: u64 = Kernel::RULES;
 
     fn boot(limits: &[u8]) -> Result<Probe, String> {
@@ -50,6 +52,9 @@ impl Machine for Probe {
         call.put(&mut bytes);
         self.answered.entry(bytes).or_default().push(reply.clone());
         reply
+    }
+    fn view(&mut self) -> &mut Probe {
+        self
     }
     fn is_live(&self, thread: u64) -> bool {
         Machine::is_live(&self.kernel, thread)
@@ -81,8 +86,19 @@ fn name(text: &str) -> Name {
     Name::new(text).expect("a name")
 }
 
-fn etcd(members: &str) -> Etcd {
-    Etcd { members: members.split(',').map(String::from).collect(), tls: None, lease: 3 }
+/// How somebody connects.
+fn etcd(members: &str, user: &str) -> Etcd {
+    let connected = |folder: String| {
+        let file = |name: &str| format!("{folder}/{name}").into();
+        let files = Files {
+            authority: file("ca.pem"),
+            certificate: file(&format!("{user}.pem")),
+            key: file(&format!("{user}.key")),
+        };
+        tls(&files).expect("files")
+    };
+    let tls = std::env::var("HISTAR_TLS").ok().map(connected);
+    Etcd { members: members.split(',').map(String::from).collect(), tls, lease: 3 }
 }
 
 fn open<M: Machine + Send + 'static>(engine: impl Engine, cluster: &str, node: &str) -> Running<M>
@@ -95,7 +111,7 @@ where
         node: name(node),
         limits: limits(&Limits::pages(1024)),
         lanes: 4,
-        interval: 200,
+        interval: 1000,
         any: now.as_nanos() as u64,
     };
     Running::open(engine, options)
@@ -114,7 +130,7 @@ fn making(thread: u64, number: u64) -> Record {
 }
 
 fn prepare(cluster: &str, members: &str, nodes: &[String]) {
-    let first = open::<Kernel>(etcd(members), cluster, &nodes[0]);
+    let first = open::<Kernel>(etcd(members, &nodes[0]), cluster, &nodes[0]);
     for node in nodes {
         let to = Name::new(node).expect("a name");
         let made = first.submit(&[Item::Call(making(2, 0))]).expect("a node").wait();
@@ -145,11 +161,12 @@ fn run(words: &[String]) {
     let [cluster, members, node, thread, file, callers, seconds] = words else { panic!("other words") };
     let number = |text: &String| text.parse::<u64>().expect("a number");
     let (thread, callers) = (number(thread), number(callers));
-    let running = Arc::new(open::<Kernel>(etcd(members), cluster, node));
+    let running = Arc::new(open::<Kernel>(etcd(members, node), cluster, node));
     let out = Arc::new(File::options().create(true).append(true).open(file).expect("a file"));
     let end = Instant::now() + Duration::from_secs(number(seconds));
     let start = SystemTime::now().duration_since(UNIX_EPOCH).expect("a time after 1970").as_millis() as u64;
-    let calls = Arc::new(AtomicU64::new(start << 20));
+    // (nodes that start at once have other numbers)
+    let calls = Arc::new(AtomicU64::new(start << 24 | (thread % 16) << 20));
     let writes = |out: &File, line: &str| {
         let mut out = out;
         out.write_all(line.as_bytes()).expect("a file that can be written");
@@ -184,35 +201,41 @@ fn run(words: &[String]) {
 struct Kept {
     cluster: String,
     etcd: Etcd,
-    pairs: BTreeMap<u64, Pair>,
+    pairs: BTreeMap<(u64, Vec<u8>), Pair>,
 }
 
 impl Kept {
-    /// Keeps what was put, and tells the nodes so, as a node tells how far it has played: they drop nothing else.
+    /// Keeps what was put, and tells the nodes so, as a node tells how far it has played: they drop nothing else, up to four
+    /// marks back.
     fn look(&mut self) -> bool {
         let (from, to) = range(&name(&self.cluster));
         let Ok(pairs) = self.etcd.keys(&from, &to) else { return false };
         let is_of_log = |pair: &Pair| {
             ["boot", "log/e/", "log/c/"].iter().any(|it| pair.key[from.len()..].starts_with(it.as_bytes()))
         };
-        self.pairs.extend(pairs.into_iter().filter(is_of_log).map(|pair| (pair.created, pair)));
-        let place = self.pairs.last_key_value().map_or(0, |(place, _)| *place);
-        self.etcd.members.iter().any(|member| put_fence(member, &self.cluster, place).is_ok())
+        self.pairs.extend(pairs.into_iter().filter(is_of_log).map(|pair| ((pair.created, pair.key.clone()), pair)));
+        let place = self.pairs.last_key_value().map_or(0, |((place, _), _)| *place);
+        self.etcd.members.iter().any(|member| put_fence(member, &self.etcd, &self.cluster, place).is_ok())
     }
 
     /// An engine with these keys alone.
     fn engine(&self) -> Memory {
         let memory = Memory::new();
-        for (place, pair) in &self.pairs {
+        let mut pairs = self.pairs.values().peekable();
+        while let Some(pair) = pairs.next() {
+            let mut changes = vec![(pair.key.clone(), Some(pair.value.clone()))];
+            while let Some(other) = pairs.next_if(|other| other.created == pair.created) {
+                changes.push((other.key.clone(), Some(other.value.clone())));
+            }
             let mut store = memory.store();
-            store.revision = place - 1;
-            store.put(&pair.key, &pair.value, None);
+            store.revision = pair.created - 1;
+            store.transact(&changes);
         }
         memory
     }
 }
 
-fn put_fence(member: &str, cluster: &str, mut place: u64) -> Result<(), Fault> {
+fn put_fence(member: &str, etcd: &Etcd, cluster: &str, mut place: u64) -> Result<(), Fault> {
     let runtime = tokio::runtime::Builder::new_current_thread().enable_all().build().expect("a runtime");
     let mut value = Vec::new();
     while place >= 128 {
@@ -223,7 +246,9 @@ fn put_fence(member: &str, cluster: &str, mut place: u64) -> Result<(), Fault> {
     let put =
         PutRequest { key: format!("/{cluster}/fence/check/0").into_bytes().into(), value: value.into(), lease: 0 };
     runtime.block_on(async {
-        let asked = async { Channel::connect(member, None).await?.call("/etcdserverpb.KV/Put", &put).await };
+        let asked = async {
+            Channel::connect(member, etcd.tls.clone()).await?.call("/etcdserverpb.KV/Put", &put, usize::MAX).await
+        };
         let _: Done = tokio::time::timeout(Duration::from_secs(1), asked).await??;
         Ok(())
     })
@@ -231,7 +256,7 @@ fn put_fence(member: &str, cluster: &str, mut place: u64) -> Result<(), Fault> {
 
 /// Keeps the log until the names of files are told.
 fn keep(cluster: &str, members: &str) -> (Kept, Vec<String>) {
-    let mut kept = Kept { cluster: cluster.into(), etcd: etcd(members), pairs: BTreeMap::new() };
+    let mut kept = Kept { cluster: cluster.into(), etcd: etcd(members, "check"), pairs: BTreeMap::new() };
     while !kept.look() {}
     println!("follows");
     let (sender, told) = channel();

@@ -2,6 +2,7 @@
 //!
 //! `costs puts MEMBERS WATCHERS CALLERS SECONDS`: callers put 72 bytes under keys of their own, which so many watchers read.
 //! `costs calls MEMBERS NODES LANES CALLERS CALLS SECONDS`: callers of the first of so many nodes submit so many writes of 64 bytes together.
+//! `costs tasks MEMBERS NODES LANES CALLERS CALLS SECONDS`: the same, where each caller is a task and no thread.
 //! `costs reads KIND THREADS SECONDS`: threads read 64 bytes of a `kernel` of their own, by a `node`, or each by a `reader`.
 //! `costs behind MEMBERS CALLS`: a node begins that lacks so many calls of an entry each, until it has seen all.
 //!
@@ -19,7 +20,7 @@ use grpc::Channel;
 use histar::trusted::{session_of, Record, Thread};
 use histar::{label, Call, Entry, Kernel, Limits, Object, Reply};
 use histar_cluster::memory::Memory;
-use histar_cluster::{limits, Item, Name, Options, Receipt, Running, Told};
+use histar_cluster::{limits, Item, Name, Options, Receipt, Running, Told, View};
 use histar_etcd::Etcd;
 use std::borrow::Cow;
 use std::sync::atomic::{AtomicU64, Ordering};
@@ -73,7 +74,7 @@ fn puts(members: &[String], watchers: u64, callers: u64, time: Duration) {
                         }
                         let key = Bytes::from(format!("/bare-{start}/{caller:08}/{at:08}"));
                         let put = PutRequest { key, value: Bytes::from(vec![7; BYTES]), lease: 0 };
-                        let _: Done = channel.call("/etcdserverpb.KV/Put", &put).await.expect("a put");
+                        let _: Done = channel.call("/etcdserverpb.KV/Put", &put, usize::MAX).await.expect("a put");
                         done.fetch_add(1, Ordering::Relaxed);
                     }
                 })
@@ -161,6 +162,34 @@ fn calls(members: &[String], nodes: u64, lanes: u64, callers: u64, calls: u64, t
     println!("{} {}", done.load(Ordering::Relaxed), began.elapsed().as_millis());
 }
 
+/// What `calls` does, by tasks.
+fn tasks(members: &[String], nodes: u64, lanes: u64, callers: u64, calls: u64, time: Duration) {
+    let cluster = format!("costs-{}", any() % 1_000_000_000);
+    let of = |node| options(&cluster, node, lanes as usize, 1 << 40);
+    let (running, _followers, segment) = begin(members, nodes, of);
+    let record = write_of(segment);
+    let done = Arc::new(AtomicU64::new(0));
+    let began = Instant::now();
+    let runtime = Builder::new_multi_thread().worker_threads(2).enable_all().build().expect("threads");
+    runtime.block_on(async {
+        let caller = |_| {
+            let items: Vec<Item<Record>> = (0..calls).map(|_| Item::Call(record.clone())).collect();
+            let (running, done) = (running.clone(), done.clone());
+            tokio::spawn(async move {
+                while began.elapsed() < time {
+                    let receipt = running.submit(&items).expect("a node").await;
+                    assert!(matches!(receipt, Some(Receipt::Told { .. })), "{:?}", running.fault());
+                    done.fetch_add(calls, Ordering::Relaxed);
+                }
+            })
+        };
+        for it in (0..callers).map(caller).collect::<Vec<_>>() {
+            it.await.expect("no caller panics");
+        }
+    });
+    println!("{} {}", done.load(Ordering::Relaxed), began.elapsed().as_millis());
+}
+
 /// A node begins once two others have made so many calls.
 fn behind(members: &[String], calls: u64) {
     let cluster = format!("behind-{}", any() % 1_000_000_000);
@@ -189,22 +218,22 @@ fn behind(members: &[String], calls: u64) {
 type Read<'r> = Box<dyn FnMut() + Send + 'r>;
 
 fn reading(kind: &str, node: &Arc<Running<Kernel>>, entry: Entry) -> Read<'static> {
-    let read = move |kernel: &Kernel| {
-        assert!(session_of(kernel, Thread::BOOT).segment_read(entry, 0, 64).is_ok());
+    let read = move |kernel: View<'_>| {
+        assert!(kernel.of(Thread::BOOT).segment_read(entry, 0, 64).is_ok());
     };
     match kind {
         "kernel" => {
             let alone = node.read(|kernel| Kernel::open_at(kernel.checkpoint().expect("a text"))).expect("a machine");
             let alone = alone.expect("a kernel");
-            Box::new(move || read(&alone))
+            Box::new(move || assert!(session_of(&alone, Thread::BOOT).segment_read(entry, 0, 64).is_ok()))
         }
         "node" => {
             let node = node.clone();
-            Box::new(move || node.read(|kernel| read(kernel)).expect("a machine"))
+            Box::new(move || node.read(read).expect("a machine"))
         }
         "reader" => {
             let mut reader = node.reader().expect("a reader");
-            Box::new(move || reader.read(|kernel| read(kernel)).expect("a machine"))
+            Box::new(move || reader.read(read).expect("a machine"))
         }
         _ => panic!("other words"),
     }
@@ -250,6 +279,10 @@ fn main() {
         ["calls", of, nodes, lanes, callers, together, seconds] => {
             let time = Duration::from_secs(number(seconds));
             calls(&members(of), number(nodes), number(lanes), number(callers), number(together), time)
+        }
+        ["tasks", of, nodes, lanes, callers, together, seconds] => {
+            let time = Duration::from_secs(number(seconds));
+            tasks(&members(of), number(nodes), number(lanes), number(callers), number(together), time)
         }
         ["behind", of, calls] => behind(&members(of), number(calls)),
         ["reads", kind, threads, seconds] => reads(kind, number(threads), Duration::from_secs(number(seconds))),

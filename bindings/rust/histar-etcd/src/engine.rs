@@ -4,6 +4,7 @@ use crate::wire::*;
 use bytes::Bytes;
 use histar_cluster::engine::{Answer, Answers, Engine, Event, Pair, Request};
 use prost::Message;
+use std::sync::atomic::{AtomicI64, AtomicU32, Ordering};
 use std::sync::{Arc, Mutex, PoisonError};
 use std::time::Duration;
 use tokio::runtime::{Builder, Runtime};
@@ -16,8 +17,15 @@ const PATIENCE: Duration = Duration::from_millis(1500);
 /// A watch that says nothing for so long is begun anew at another member.
 const SILENCE: Duration = Duration::from_secs(3);
 
-/// How many keys a page has: far more take longer than an answer is waited for.
-const PAGE: i64 = 20_000;
+/// How many keys the first page has, and one of short values at most. etcd bounds no answer by its bytes, and a value may have 1.5 MiB.
+const FIRST: i64 = 16;
+const MOST: i64 = 1024;
+
+/// A page of more bytes is asked for again with half as many keys.
+const BYTES: usize = 4 << 20;
+
+/// The patience for a page doubles so often with each one that is lost: a member may need long to prepare it.
+const DOUBLED: u32 = 5;
 
 /// The members of an etcd, and how they are reached.
 #[derive(Clone)]
@@ -35,6 +43,49 @@ struct Client {
     etcd: Etcd,
     /// The connection, and how many were opened: the next one is to the next member.
     open: tokio::sync::Mutex<(usize, Option<Channel>)>,
+    pages: Pages,
+}
+
+/// How pages are asked for: one at a time.
+struct Pages {
+    turn: tokio::sync::Mutex<()>,
+    limit: AtomicI64,
+    lost: AtomicU32,
+}
+
+impl Pages {
+    fn new() -> Pages {
+        Pages { turn: tokio::sync::Mutex::new(()), limit: AtomicI64::new(FIRST), lost: AtomicU32::new(0) }
+    }
+
+    fn patience(&self) -> Duration {
+        PATIENCE * (1 << self.lost.load(Ordering::Relaxed).min(DOUBLED))
+    }
+
+    /// Takes how a page went that was asked for with so many keys. False where it is to be asked for again, with fewer.
+    fn learns(&self, limit: i64, told: &Result<RangeResponse, Fault>) -> bool {
+        let size = match told {
+            Err(Fault::Lost(_)) => {
+                self.lost.fetch_add(1, Ordering::Relaxed);
+                BYTES
+            }
+            Err(Fault::TooLong) => BYTES + 1,
+            Err(Fault::Status(..)) => return true,
+            Ok(page) => {
+                self.lost.store(0, Ordering::Relaxed);
+                page.encoded_len()
+            }
+        };
+        let next = if size < BYTES / 4 {
+            limit * 2
+        } else if size > BYTES / 2 {
+            limit / 2
+        } else {
+            limit
+        };
+        self.limit.store(next.clamp(1, MOST), Ordering::Relaxed);
+        size <= BYTES || limit == 1
+    }
 }
 
 /// What a node's requests share.
@@ -76,7 +127,57 @@ impl Drop for Ending {
     }
 }
 
+/// How a member is.
+#[derive(Clone, PartialEq, Eq, Debug)]
+pub struct Member {
+    /// Its address.
+    pub address: String,
+    /// The bytes of its file, and those of them that are in use.
+    pub size: (u64, u64),
+    /// Its alarms, as that it has no space.
+    pub alarms: Vec<String>,
+}
+
 impl Etcd {
+    /// Puts a key that is not there. False where it is.
+    ///
+    /// # Errors
+    /// That no member answers, or what it answers instead.
+    pub fn put_new(&self, key: &[u8], value: &[u8]) -> Result<bool, String> {
+        let told = self.alone(|client| async move { client.put(key.to_vec(), value.to_vec(), 0, true).await })?;
+        Ok(matches!(told, (_, Answer::Put { is_done: true, .. })))
+    }
+
+    /// How each member is.
+    ///
+    /// # Errors
+    /// That one does not answer, or what it answers instead.
+    pub fn status(&self) -> Result<Vec<Member>, String> {
+        let of = |address: &String| {
+            let alone = Etcd { members: vec![address.clone()], ..self.clone() };
+            let asked = |client: Client| async move {
+                client.ask::<_, StatusResponse>("/etcdserverpb.Maintenance/Status", &StatusRequest {}).await
+            };
+            let StatusResponse { size, in_use, alarms } =
+                alone.alone(asked).map_err(|why| format!("{address}: {why}"))?;
+            Ok(Member { address: address.clone(), size: (size as u64, in_use as u64), alarms })
+        };
+        self.members.iter().map(of).collect()
+    }
+
+    /// Does something by a client of its own.
+    fn alone<T, F: std::future::Future<Output = Result<T, Fault>>>(
+        &self,
+        act: impl FnOnce(Client) -> F,
+    ) -> Result<T, String> {
+        let runtime = Builder::new_current_thread().enable_all().build().map_err(|error| error.to_string())?;
+        runtime.block_on(act(Client::new(self.clone()))).map_err(|fault| match fault {
+            Fault::Status(_, why) => why,
+            Fault::Lost(why) => format!("no member of the engine answers: {why}"),
+            Fault::TooLong => "an answer is too long".into(),
+        })
+    }
+
     /// All keys from one up to another, at one revision.
     ///
     /// # Errors
@@ -164,7 +265,7 @@ impl Asks {
 
 impl Client {
     fn new(etcd: Etcd) -> Client {
-        Client { etcd, open: tokio::sync::Mutex::new((0, None)) }
+        Client { etcd, open: tokio::sync::Mutex::new((0, None)), pages: Pages::new() }
     }
 
     async fn channel(&self) -> Result<(usize, Channel), Fault> {
@@ -174,7 +275,12 @@ impl Client {
         }
         let member = &self.etcd.members[open.0 % self.etcd.members.len()];
         open.0 += 1;
-        let channel = tokio::time::timeout(PATIENCE, Channel::connect(member, self.etcd.tls.clone())).await??;
+        let connected = tokio::time::timeout(PATIENCE, Channel::connect(member, self.etcd.tls.clone())).await;
+        let named = |why: Fault| match why {
+            Fault::Lost(why) => Fault::Lost(format!("{member}: {why}")),
+            why => why,
+        };
+        let channel = connected.map_err(Fault::from).and_then(|channel| channel).map_err(named)?;
         open.1 = Some(channel.clone());
         Ok((open.0, channel))
     }
@@ -188,12 +294,23 @@ impl Client {
     }
 
     async fn ask<Q: Message, R: Message + Default>(&self, path: &str, question: &Q) -> Result<R, Fault> {
+        self.ask_for(path, question, usize::MAX, PATIENCE).await
+    }
+
+    /// Asks for an answer of so many bytes at most, in a time.
+    async fn ask_for<Q: Message, R: Message + Default>(
+        &self,
+        path: &str,
+        question: &Q,
+        most: usize,
+        patience: Duration,
+    ) -> Result<R, Fault> {
         let (number, channel) = self.channel().await?;
-        let told = match tokio::time::timeout(PATIENCE, channel.call(path, question)).await {
+        let told = match tokio::time::timeout(patience, channel.call(path, question, most)).await {
             Ok(told) => told,
             Err(late) => Err(late.into()),
         };
-        if matches!(told, Err(Fault::Lost)) {
+        if matches!(told, Err(Fault::Lost(_))) {
             self.leave(number).await;
         }
         told
@@ -221,17 +338,18 @@ impl Client {
                 let kept: Done = tokio::time::timeout(PATIENCE, stream.next()).await??;
                 Ok((header(&kept.header).0, Answer::Kept))
             }
-            Request::Drop { from, to, forget } => {
+            Request::Drop { from, to } => {
                 let question = DeleteRequest { key: from.into(), range_end: to.into() };
                 let done: Done = self.ask("/etcdserverpb.KV/DeleteRange", &question).await?;
-                if forget > 0 {
-                    // (another node may have done so)
-                    let compact = CompactRequest { revision: forget as i64 };
-                    let _: Result<Done, Fault> = self.ask("/etcdserverpb.KV/Compact", &compact).await;
-                }
                 Ok((header(&done.header).0, Answer::Dropped))
             }
-            Request::Watch { .. } => Err(Fault::Lost),
+            Request::Forget { before } => {
+                // (another node may have done so)
+                let question = CompactRequest { revision: before as i64 };
+                let done: Done = self.ask("/etcdserverpb.KV/Compact", &question).await?;
+                Ok((header(&done.header).0, Answer::Dropped))
+            }
+            Request::Watch { .. } => Err(Fault::Lost("a watch is a stream".into())),
         }
     }
 
@@ -250,14 +368,26 @@ impl Client {
         Ok((engine, Answer::Put { revision, is_done: done.succeeded }))
     }
 
+    /// A page, of as many keys as have few enough bytes.
     async fn page(&self, from: Vec<u8>, to: Vec<u8>, at: u64) -> Told {
-        let question = RangeRequest { key: from.into(), range_end: to.into(), limit: PAGE, revision: at as i64 };
-        let page: RangeResponse = self.ask("/etcdserverpb.KV/Range", &question).await?;
-        let (engine, revision) = header(&page.header);
-        let pair =
-            |kv: KeyValue| Pair { key: kv.key.to_vec(), value: kv.value.to_vec(), created: kv.create_revision as u64 };
-        Ok((engine, Answer::Page { revision, pairs: page.kvs.into_iter().map(pair).collect(), is_more: page.more }))
+        let _turn = self.pages.turn.lock().await;
+        let mut question = RangeRequest { key: from.into(), range_end: to.into(), limit: 0, revision: at as i64 };
+        loop {
+            question.limit = self.pages.limit.load(Ordering::Relaxed);
+            let most = if question.limit == 1 { usize::MAX } else { BYTES };
+            let told = self.ask_for("/etcdserverpb.KV/Range", &question, most, self.pages.patience()).await;
+            if self.pages.learns(question.limit, &told) {
+                return told.map(page_of);
+            }
+        }
     }
+}
+
+fn page_of(page: RangeResponse) -> (u64, Answer) {
+    let (engine, revision) = header(&page.header);
+    let pair =
+        |kv: KeyValue| Pair { key: kv.key.to_vec(), value: kv.value.to_vec(), created: kv.create_revision as u64 };
+    (engine, Answer::Page { revision, pairs: page.kvs.into_iter().map(pair).collect(), is_more: page.more })
 }
 
 fn event_of(kv: KeyValue) -> Event {
@@ -270,6 +400,51 @@ fn answer_of(fault: Fault) -> Answer {
         Fault::Status(11, why) if why.contains("compacted") => Answer::Forgotten,
         // (14 and 4 are told of what may be done all the same; 8 is also told of too many requests)
         Fault::Status(7 | 8 | 16, why) if !why.contains("too many requests") => Answer::Refused(why),
-        _ => Answer::Lost,
+        Fault::Lost(why) | Fault::Status(_, why) => Answer::Unreached(why),
+        Fault::TooLong => Answer::Lost,
+    }
+}
+
+#[cfg(test)]
+mod tests {
+    use super::*;
+
+    fn page(bytes: usize) -> Result<RangeResponse, Fault> {
+        let value = Bytes::from(vec![0; bytes]);
+        Ok(RangeResponse { kvs: vec![KeyValue { value, ..KeyValue::default() }], ..RangeResponse::default() })
+    }
+
+    /// The limits of the pages that are asked for after one another, while each has so many bytes a key.
+    fn limits(pages: &Pages, count: usize, bytes: usize) -> Vec<(i64, bool)> {
+        let ask = |_| {
+            let limit = pages.limit.load(Ordering::Relaxed);
+            let size = limit as usize * bytes;
+            let told = if limit > 1 && size > BYTES { Err(Fault::TooLong) } else { page(size) };
+            (limit, pages.learns(limit, &told))
+        };
+        (0..count).map(ask).collect()
+    }
+
+    #[test]
+    fn a_page_has_as_many_keys_as_have_few_enough_bytes() {
+        let pages = Pages::new();
+        let short = limits(&pages, 8, 100);
+        assert_eq!(short, [16, 32, 64, 128, 256, 512, 1024, 1024].map(|limit| (limit, true)));
+        let long = limits(&pages, 10, 1 << 20);
+        assert_eq!(long[..9], [1024, 512, 256, 128, 64, 32, 16, 8, 4].map(|limit| (limit, false)));
+        assert_eq!((limits(&pages, 1, 1 << 20), limits(&pages, 1, 8 << 20)), (vec![(1, true)], vec![(1, true)]));
+    }
+
+    #[test]
+    fn the_patience_for_pages_grows() {
+        let pages = Pages::new();
+        let mut seconds = Vec::new();
+        for _ in 0..7 {
+            seconds.push(pages.patience().as_secs_f64());
+            pages.learns(16, &Err(Fault::Lost(String::new())));
+        }
+        assert_eq!(seconds, [1.5, 3.0, 6.0, 12.0, 24.0, 48.0, 48.0]);
+        pages.learns(16, &page(1));
+        assert_eq!(pages.patience(), PATIENCE);
     }
 }

@@ -13,15 +13,17 @@ use tokio_rustls::TlsConnector;
 /// Why a call has no answer.
 #[derive(Debug)]
 pub enum Fault {
-    /// The connection is gone, or there was none, or no answer came in time: what was asked may be done, now or later, or not.
-    Lost,
+    /// The connection is gone, or there was none, or no answer came in time: what was asked may be done, now or later, or not. The reason.
+    Lost(String),
     /// The engine answered by a status other than 0.
     Status(u32, String),
+    /// The answer has more bytes than were asked for.
+    TooLong,
 }
 
 impl<E: std::error::Error> From<E> for Fault {
-    fn from(_: E) -> Fault {
-        Fault::Lost
+    fn from(error: E) -> Fault {
+        Fault::Lost(error.to_string())
     }
 }
 
@@ -42,15 +44,15 @@ fn frame<M: Message>(message: &M) -> Bytes {
     out.freeze()
 }
 
+/// The bytes of a message of which the beginning has arrived.
+fn length(buffer: &BytesMut) -> Option<usize> {
+    let len = buffer.get(1..5)?.try_into().ok()?;
+    Some(u32::from_be_bytes(len) as usize)
+}
+
 /// Takes a whole message from what has arrived.
 fn message<M: Message + Default>(buffer: &mut BytesMut) -> Result<Option<M>, Fault> {
-    if buffer.len() < 5 {
-        return Ok(None);
-    }
-    let len = u32::from_be_bytes([buffer[1], buffer[2], buffer[3], buffer[4]]) as usize;
-    if buffer.len() < 5 + len {
-        return Ok(None);
-    }
+    let Some(len) = length(buffer).filter(|len| buffer.len() >= 5 + len) else { return Ok(None) };
     buffer.advance(5);
     Ok(Some(M::decode(buffer.split_to(len).freeze())?))
 }
@@ -81,6 +83,9 @@ impl Channel {
             None => Channel::over(tcp, address, "http").await,
             Some(config) => {
                 let host = address.rsplit_once(':').map_or(address, |(host, _)| host);
+                if host.parse::<std::net::IpAddr>().is_ok() {
+                    return Err(Fault::Lost("by TLS a member is reached by its name, not by its address".into()));
+                }
                 let tls = TlsConnector::from(config).connect(ServerName::try_from(host)?, tcp).await?;
                 Channel::over(tls, address, "https").await
             }
@@ -110,19 +115,28 @@ impl Channel {
         Ok(send.send_request(request, false)?)
     }
 
-    /// A call with one answer.
-    pub async fn call<Q: Message, R: Message + Default>(&self, path: &str, question: &Q) -> Result<R, Fault> {
+    /// A call with one answer, of so many bytes at most.
+    pub async fn call<Q: Message, R: Message + Default>(
+        &self,
+        path: &str,
+        question: &Q,
+        most: usize,
+    ) -> Result<R, Fault> {
         let (response, mut stream) = self.open(path).await?;
         stream.send_data(frame(question), true)?;
         let response = response.await?;
         status(response.headers())?;
         let mut body = response.into_body();
         let mut buffer = BytesMut::new();
-        while more(&mut body, &mut buffer).await? {}
+        while more(&mut body, &mut buffer).await? {
+            if length(&buffer).is_some_and(|len| len > most) {
+                return Err(Fault::TooLong);
+            }
+        }
         if let Some(trailers) = body.trailers().await? {
             status(&trailers)?;
         }
-        message(&mut buffer)?.ok_or(Fault::Lost)
+        message(&mut buffer)?.ok_or_else(|| Fault::Lost("an answer ends too soon".into()))
     }
 
     /// A question with many answers.
@@ -153,7 +167,7 @@ impl Stream {
                 if let Some(trailers) = self.body.trailers().await? {
                     status(&trailers)?;
                 }
-                return Err(Fault::Lost);
+                return Err(Fault::Lost("a stream ended".into()));
             }
         }
     }

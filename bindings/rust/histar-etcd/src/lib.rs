@@ -6,5 +6,5 @@ mod grpc;
 mod tls;
 mod wire;
 
-pub use engine::Etcd;
+pub use engine::{Etcd, Member};
 pub use tls::{tls, Files};

@@ -179,3 +179,16 @@ pub struct LeaseKeep {
     #[prost(int64, tag = "1")]
     pub id: i64,
 }
+
+#[derive(Clone, PartialEq, Message)]
+pub struct StatusRequest {}
+
+#[derive(Clone, PartialEq, Message)]
+pub struct StatusResponse {
+    #[prost(int64, tag = "3")]
+    pub size: i64,
+    #[prost(string, repeated, tag = "8")]
+    pub alarms: Vec<String>,
+    #[prost(int64, tag = "9")]
+    pub in_use: i64,
+}

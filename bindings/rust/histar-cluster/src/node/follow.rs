@@ -6,29 +6,47 @@ use crate::keys::{after, end_of, Key, LogKey};
 use crate::receipt::Fault;
 use crate::sha256::{sha256, Digest};
 use crate::state::{Boot, NoMemory, State, Step};
-use crate::Machine;
+use crate::{Machine, Name};
+use std::collections::BTreeSet;
 
 /// A watch that is farther behind is slower than pages.
 const FAR: u64 = 1000;
 
 impl<M: Machine> Node<M> {
     pub(super) fn look_at_boot(&mut self) {
-        let key = self.keys.boot();
-        self.read_key(key, 0, Then::Boot);
+        let (from, to) = self.keys.begun();
+        self.read_ranges([(from, to)], 0, Then::Boot);
     }
 
-    pub(super) fn boots(&mut self, found: Vec<Pair>) {
-        let boot =
-            found.first().and_then(|pair| Boot::read(&pair.value)).filter(|boot| boot.limits == self.options.limits);
-        let Some(boot) = boot else { return self.stop(Fault::OtherBoot) };
-        match State::new(self.keys.clone(), boot.clone()) {
+    /// Boots what the cluster was begun with, or begins it.
+    pub(super) fn boots(&mut self, found: &[Pair]) {
+        let key = self.keys.boot();
+        let Some(begun) = found.iter().find(|pair| pair.key == key) else {
+            let value = self.options.boot::<M>().bytes();
+            return self.ask(Purpose::Boot, Request::Put { key, value, lease: None, only_new: true });
+        };
+        let voids = found.iter().filter_map(|pair| self.keys.read_void(&pair.key)).collect();
+        match self.begins(begun, voids) {
             Err(fault) => self.stop(fault),
             Ok(state) => {
-                self.boot = Some(boot);
-                self.phase = Phase::Plays { state: Box::new(state), is_loading: true, is_watching: false };
+                self.begun = Some(begun.clone());
+                self.begin(state);
                 self.load();
             }
         }
+    }
+
+    /// The state that the cluster was begun in.
+    fn begins(&self, begun: &Pair, voids: BTreeSet<u64>) -> Result<State<M>, Fault> {
+        let boot = Boot::read(&begun.value)?;
+        if boot.limits != self.options.limits {
+            return Err(Fault::OtherBoot);
+        }
+        State::new(self.keys.clone(), boot, voids)
+    }
+
+    fn begin(&mut self, state: State<M>) {
+        self.phase = Phase::Plays { state: Box::new(state), is_loading: true, is_watching: false };
     }
 
     /// Plays all that the node has not played, by pages of one revision: first the newest checkpoint, if it is newer than the node.
@@ -43,36 +61,40 @@ impl<M: Machine> Node<M> {
 
     pub(super) fn find_checkpoint(&mut self, at: u64, found: Vec<Pair>) {
         for pair in found {
-            if let (Some(LogKey::Agree(node, place)), Ok(digest)) = (self.keys.read(&pair.key), pair.value.try_into()) {
-                self.agreements.add(node, place, digest);
+            if let (Some(LogKey::Agree(node, entries)), Ok(digest)) = (self.keys.read(&pair.key), pair.value.try_into())
+            {
+                self.agreements.add(node, entries, digest);
             }
         }
-        let agreed = self.agreements.above(self.reached).into_iter();
-        let all: Vec<_> = agreed.map(|(place, digest, node)| (place, digest, self.keys.state(&node, place))).collect();
-        let newest = all.last().map(|(place, digest, _)| (*place, *digest));
+        let Some(played) = self.state().map(|state| state.point().entries) else { return };
+        let agreed = self.agreements.above(played).into_iter();
+        let all: Vec<_> =
+            agreed.map(|(entries, digest, node)| (entries, digest, self.keys.state(&node, entries))).collect();
+        let newest = all.last().map(|(entries, digest, _)| (*entries, *digest));
         self.try_checkpoint(at, Agreed { newest, others: all });
     }
 
     fn try_checkpoint(&mut self, at: u64, mut agreed: Agreed) {
         match agreed.others.pop() {
-            Some((place, digest, key)) => self.read_key(key, at, Then::Checkpoint { place, digest, agreed }),
+            Some((entries, digest, key)) => self.read_key(key, at, Then::Checkpoint { entries, digest, agreed }),
             None => self.load_log(at, agreed.newest),
         }
     }
 
     /// Begins at a checkpoint, if it was put and is the one that nodes agree on.
-    pub(super) fn begin_at(&mut self, at: u64, place: u64, digest: Digest, found: Vec<Pair>, agreed: Agreed) {
+    pub(super) fn begin_at(&mut self, at: u64, entries: u64, digest: Digest, found: Vec<Pair>, agreed: Agreed) {
         let Some(pair) = found.first().filter(|pair| sha256(&pair.value) == digest) else {
             return self.try_checkpoint(at, agreed);
         };
-        let Some(boot) = self.boot.clone() else { return };
-        match State::restore(self.keys.clone(), boot, place, &pair.value) {
-            Err(fault) => self.stop(fault),
-            Ok(state) => {
-                self.phase = Phase::Plays { state: Box::new(state), is_loading: true, is_watching: false };
-                self.reached = place;
+        match self.state().map(|state| state.restore(entries, &pair.value)) {
+            None => {}
+            Some(Err(fault)) => self.stop(fault),
+            Some(Ok(state)) => {
+                // (what else was put at the place of its last entry is not played; what was, counts no more)
+                self.reached = state.point().place.saturating_sub(1);
+                self.begin(state);
                 self.jumped();
-                self.load_log(at, agreed.newest.filter(|(newest, _)| *newest > place));
+                self.load_log(at, agreed.newest.filter(|(newest, _)| *newest > entries));
             }
         }
     }
@@ -82,7 +104,7 @@ impl<M: Machine> Node<M> {
         let Some(state) = self.state() else { return };
         let lanes = state.order.lanes();
         let mut played: Vec<(Key, Key)> =
-            lanes.map(|(lane, last)| (self.keys.entry(lane, 1), after(self.keys.entry(lane, *last)))).collect();
+            lanes.map(|(lane, last)| (self.keys.entry(lane, 1), after(self.keys.entry(lane, last.number)))).collect();
         played.sort();
         let (mut from, end) = (self.keys.log(), end_of(self.keys.log()));
         let mut ranges = Vec::new();
@@ -94,18 +116,22 @@ impl<M: Machine> Node<M> {
         self.read_ranges(ranges, at, Then::Log { wanted });
     }
 
-    /// Plays what is left of the log. Of a log that was dropped a part may be left that has no gap, where the checkpoint is not what it was.
-    pub(super) fn play_pages(&mut self, at: u64, mut found: Vec<Pair>, mut wanted: Option<(u64, Digest)>) {
-        found.sort_by_key(|pair| pair.created);
+    /// Plays what is left of the log. Of a log that was dropped a part may be left that has no gap, where the checkpoint is not what it was. And
+    /// of what nodes say that they have played nothing may be missing.
+    pub(super) fn play_pages(&mut self, at: u64, found: Vec<Pair>, mut wanted: Option<(u64, Digest)>) {
+        let is_seen = |pair: &Pair| matches!(self.keys.read(&pair.key), Some(LogKey::Seen(_)));
+        let (seen, mut found): (Vec<Pair>, Vec<Pair>) = found.into_iter().partition(is_seen);
+        found.sort_by(|one, other| (one.created, &one.key).cmp(&(other.created, &other.key)));
         found.retain(|pair| pair.created > self.reached);
         for pair in found {
             self.play(pair.created, &pair.key, &pair.value);
-            wanted = wanted.filter(|(place, digest)| !self.has_mark(*place, digest));
+            wanted = wanted.filter(|(entries, digest)| !self.has_mark(*entries, digest));
         }
-        if let Some((place, _)) = wanted {
-            return self.misses(place);
+        if let Some((entries, _)) = wanted {
+            return self.misses(entries);
         }
         self.reached = self.reached.max(at);
+        seen.into_iter().for_each(|pair| self.play(at, &pair.key, &pair.value));
         if let Phase::Plays { is_loading, .. } = &mut self.phase {
             *is_loading = false;
         }
@@ -113,11 +139,11 @@ impl<M: Machine> Node<M> {
         self.register_unless_registered();
     }
 
-    /// Stops: the node did not come by the state that nodes agree on at a place.
-    fn misses(&mut self, place: u64) {
+    /// Stops: the node did not come by the state that nodes agree on after so many entries.
+    fn misses(&mut self, entries: u64) {
         match self.fault() {
-            None if self.unwritten >= Some(place) => self.stop(Fault::NoMemory),
-            None | Some(Fault::Gap | Fault::Differs(_)) => self.stop(Fault::NoCheckpoint),
+            None if self.unwritten >= Some(entries) => self.stop(Fault::NoMemory),
+            None | Some(Fault::Gap { .. } | Fault::Differs { .. }) => self.stop(Fault::NoCheckpoint),
             Some(_) => {}
         }
     }
@@ -142,7 +168,7 @@ impl<M: Machine> Node<M> {
         match answer {
             Answer::Watching(revision) if revision <= self.reached + FAR => {}
             Answer::Watching(_) | Answer::Forgotten => return self.load(),
-            Answer::Events(events) => events.into_iter().for_each(|event| self.happened(&event)),
+            Answer::Events(events) => self.happened(events),
             _ => return self.watch_lost(),
         }
         if self.fault().is_none() {
@@ -151,29 +177,41 @@ impl<M: Machine> Node<M> {
         }
     }
 
-    fn happened(&mut self, event: &Event) {
-        // (what is put again stays where it is)
-        if event.is_new && event.revision > self.reached {
-            self.play(event.revision, &event.key, &event.value);
+    /// Plays what a watch reports: what was put at one revision by rising key, as pages have it.
+    fn happened(&mut self, mut events: Vec<Event>) {
+        events.sort_by(|one, other| (one.revision, &one.key).cmp(&(other.revision, &other.key)));
+        events.retain(|event| event.revision > self.reached);
+        for event in events {
+            // (what is put again stays where it is, but for how far a node has played)
+            if event.is_new || matches!(self.keys.read(&event.key), Some(LogKey::Seen(_))) {
+                self.play(event.revision, &event.key, &event.value);
+            }
+            self.reached = event.revision;
         }
-        self.reached = self.reached.max(event.revision);
     }
 
     fn play(&mut self, place: u64, key: &[u8], value: &[u8]) {
         let Some(state) = self.state_mut() else { return };
         match state.play(place, key, value) {
             Err(fault) => return self.stop(fault),
-            Ok(Step::Entry { lane, number, told, mark }) => {
+            Ok(Step::Entry { lane, number, told }) => {
                 self.is_played(&lane, number, place, told);
-                match mark {
-                    Some(Ok(mark)) => self.marked(mark),
-                    Some(Err(NoMemory)) => self.unwritten = Some(place),
-                    None => {}
-                }
+                self.mark_if_one_stands(&lane.of.node);
             }
-            Ok(Step::Agreed { node, place, digest }) => self.agrees(node, place, digest),
-            Ok(Step::Closed | Step::Nothing) => {}
+            Ok(Step::Closed { by }) => self.mark_if_one_stands(&by),
+            Ok(Step::Agreed { node, entries, digest }) => self.agrees(node, entries, digest),
+            Ok(Step::Seen { node, point }) => self.compare_point(node, &point, place),
+            Ok(Step::Nothing) => {}
         }
         self.end_if_closed();
+    }
+
+    fn mark_if_one_stands(&mut self, writer: &Name) {
+        let Some(state) = self.state_mut() else { return };
+        match state.mark(writer) {
+            Some(Ok(mark)) => self.marked(mark),
+            Some(Err(NoMemory)) => self.unwritten = self.state().map(|state| state.point().entries),
+            None => {}
+        }
     }
 }

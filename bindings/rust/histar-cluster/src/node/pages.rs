@@ -6,7 +6,7 @@ use crate::sha256::Digest;
 use crate::Machine;
 use std::collections::{BTreeSet, VecDeque};
 
-/// The places that nodes agree on: the newest one, and those whose checkpoints were not tried yet, by rising place.
+/// After how many entries nodes agree: the newest number, and those whose checkpoints were not tried yet, by rising number.
 pub(super) struct Agreed {
     pub newest: Option<(u64, Digest)>,
     pub others: Vec<(u64, Digest, Key)>,
@@ -14,17 +14,17 @@ pub(super) struct Agreed {
 
 /// What is done with keys once all of them are read.
 pub(super) enum Then {
-    /// What the cluster boots with.
+    /// What the cluster was begun with.
     Boot,
     /// On which states nodes agree.
     Agreements,
-    /// A checkpoint of this place and digest. The others are tried where it is none.
-    Checkpoint { place: u64, digest: Digest, agreed: Agreed },
-    /// What is left of the log, which has to lead to this digest of a place.
+    /// A checkpoint after so many entries, of this digest. The others are tried where it is none.
+    Checkpoint { entries: u64, digest: Digest, agreed: Agreed },
+    /// What is left of the log, which has to lead to this digest after so many entries.
     Log { wanted: Option<(u64, Digest)> },
-    /// The fences, which are looked at after these incarnations were known.
-    Fences(BTreeSet<u64>),
-    /// A checkpoint that was put, before the log is dropped up to it.
+    /// What the cluster was begun with, and the fences, which are looked at after these incarnations were known.
+    Begun(BTreeSet<u64>),
+    /// A checkpoint that was put after so many entries, before the log is dropped up to it.
     Stored(u64),
     /// The node's own keys, which are dropped up to a place.
     Own(u64),
@@ -41,7 +41,7 @@ pub(super) struct Pages {
 impl Pages {
     /// Whether it is read again anyway.
     pub fn is_now_and_then(&self) -> bool {
-        matches!(self.then, Then::Fences(_) | Then::Stored(_) | Then::Own(_))
+        matches!(self.then, Then::Begun(_) | Then::Stored(_) | Then::Own(_))
     }
 }
 
@@ -83,20 +83,22 @@ impl<M: Machine> Node<M> {
 
     fn is_read(&mut self, then: Then, at: u64, found: Vec<Pair>) {
         match then {
-            Then::Boot => self.boots(found),
+            Then::Boot => self.boots(&found),
             Then::Agreements => self.find_checkpoint(at, found),
-            Then::Checkpoint { place, digest, agreed } => self.begin_at(at, place, digest, found, agreed),
+            Then::Checkpoint { entries, digest, agreed } => self.begin_at(at, entries, digest, found, agreed),
             Then::Log { wanted } => self.play_pages(at, found, wanted),
-            Then::Fences(open) => self.fences_seen(&open, &found),
-            Then::Stored(place) => self.is_stored(place, &found),
+            Then::Begun(open) => self.begun_seen(&open, &found),
+            Then::Stored(entries) => self.is_stored(entries, &found),
             Then::Own(place) => self.drop_own(place, &found),
         }
     }
 
-    /// What was to be read is forgotten at that revision: the log is loaded anew.
+    /// What was to be read is forgotten at that revision: it is read anew.
     pub(super) fn forgotten(&mut self, pages: &Pages) {
-        if matches!(pages.then, Then::Agreements | Then::Checkpoint { .. } | Then::Log { .. }) {
-            self.load();
+        match pages.then {
+            Then::Boot => self.look_at_boot(),
+            Then::Agreements | Then::Checkpoint { .. } | Then::Log { .. } => self.load(),
+            Then::Begun(_) | Then::Stored(_) | Then::Own(_) => {}
         }
     }
 }

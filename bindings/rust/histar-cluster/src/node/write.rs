@@ -1,9 +1,10 @@
 //! Registering, and putting entries: each under a key of its own, of the same bytes however often it is tried.
 use super::{Node, Purpose};
 use crate::engine::Request;
-use crate::entry::{self, Item};
+use crate::entry::{self, Head, Item, Short};
 use crate::keys::{Incarnation, Lane};
 use crate::receipt::{Note, Receipt, Told};
+use crate::sha256::sha256;
 use crate::spelling::put_number;
 use crate::Machine;
 use std::collections::BTreeMap;
@@ -25,6 +26,8 @@ pub(super) struct Queued {
 #[derive(Default)]
 pub(super) struct OwnLane {
     last: u64,
+    // Of the last entry.
+    digest: Short,
     is_busy: bool,
 }
 
@@ -113,7 +116,7 @@ impl<M: Machine> Node<M> {
         );
     }
 
-    /// How far the node has played, as its fence has it.
+    /// The place up to which the node has played, as its fence has it.
     pub(super) fn progress(&self) -> Vec<u8> {
         let mut value = Vec::new();
         put_number(&mut value, self.reached);
@@ -145,15 +148,17 @@ impl<M: Machine> Node<M> {
     }
 
     fn put_entry(&mut self, place: usize) {
+        let Some(point) = self.state().map(|state| state.point()) else { return };
         let Writer::Open { of, lanes, waits, .. } = &mut self.writer else { return };
-        let (mut value, mut tickets) = (entry::begin(), Vec::new());
+        let own = &mut lanes[place];
+        let (mut value, mut tickets) = (entry::begin(&Head::new(&point, &own.digest)), Vec::new());
         while value.len() < MOST {
             let Some(queued) = self.queue.pop_front() else { break };
             value.extend_from_slice(&queued.bytes);
             tickets.push((queued.ticket, queued.count));
         }
-        let own = &mut lanes[place];
         own.last += 1;
+        own.digest = entry::short(&sha256(&value));
         own.is_busy = true;
         let number = own.last;
         waits.insert((place, number), tickets);
@@ -211,7 +216,7 @@ impl<M: Machine> Node<M> {
         let (Some(state), Writer::Open { of, waits, .. }) = (self.state(), &self.writer) else { return };
         let order = state.order.clone();
         let of = of.clone();
-        let last = |lane: usize| order.last(&Lane { of: of.clone(), number: lane as u64 });
+        let last = |lane: usize| order.last(&Lane { of: of.clone(), number: lane as u64 }).number;
         if !order.is_open(&of) {
             let is_closed = order.is_closed(of.number);
             return self.end_with(|lane, number| match (number <= last(lane), is_closed) {

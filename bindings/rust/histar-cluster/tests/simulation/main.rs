@@ -1,9 +1,11 @@
 //! The protocol against a simulated engine, played from seeds: requests are late, lost, done twice or done after they were given up; answers
-//! and watches are lost; nodes are killed and paused; leases end at any time, as by a moved clock; the log is dropped; a node lies; the engine
-//! loses its disks; a node lacks memory for its checkpoints. No promise to a caller may be broken.
+//! and watches are lost; nodes are killed and paused; leases end at any time, as by a moved clock; the log is dropped; a node lies, and in some runs it changes
+//! and deletes what it has put, in any transaction; the engine loses its disks; a node lacks memory for its checkpoints. No promise to a caller may
+//! be broken.
 //!
 //! `simulation [RUNS [STEPS [SEED [SEEDS]]]]`: so many runs of so many steps of a model, from a seed on, and a tenth of them with the proved
 //! kernel; until so many seeds have broken a promise.
+mod liar;
 mod model;
 mod player;
 #[path = "../../src/sha256.rs"]
@@ -37,7 +39,7 @@ fn play<P: Player>(what: &str, runs: u64, steps: u64, first: u64, seeds: u64) ->
     let mut all = Counts::default();
     let mut left = seeds;
     for seed in first..first + runs {
-        let Counts { faults, answered, never, unseen, unknown, refused } = match run::<P>(seed, steps) {
+        let Counts { faults, answered, never, unseen, unknown, refused, stopped } = match run::<P>(seed, steps) {
             Ok(counts) => counts,
             Err(broken) => {
                 println!("seed {seed} of {what}: {broken}");
@@ -54,16 +56,18 @@ fn play<P: Player>(what: &str, runs: u64, steps: u64, first: u64, seeds: u64) ->
         all.unseen += unseen;
         all.unknown += unknown;
         all.refused += refused;
+        all.stopped += stopped;
     }
     println!(
         "{runs} runs of {what}: {} faults; {} submissions answered, {} never made, {} made unseen, {} unknown, {} calls of other nodes' \
-         threads refused; {} promises broken",
+         threads refused, {} nodes stopped by what a liar changed; {} promises broken",
         all.faults,
         all.answered,
         all.never,
         all.unseen,
         all.unknown,
         all.refused,
+        all.stopped,
         seeds - left
     );
     left == seeds

@@ -65,6 +65,7 @@ impl Model {
 impl Machine for Model {
     type Call = Call;
     type Reply = Reply;
+    type View<'m> = &'m mut Model;
 
     const RULES: u64 = 1;
 
@@ -102,6 +103,10 @@ impl Machine for Model {
         self.replies.insert(call.number, reply.clone());
         self.played.push((call.number, reply.clone()));
         reply
+    }
+
+    fn view(&mut self) -> &mut Model {
+        self
     }
 
     fn is_live(&self, thread: u64) -> bool {

@@ -6,7 +6,7 @@ use histar_cluster::{limits, Machine, Unrestored, Written};
 use std::collections::BTreeMap;
 
 /// A machine whose calls have numbers.
-pub trait Player: Machine<Reply: PartialEq> {
+pub trait Player: for<'m> Machine<Reply: PartialEq, View<'m> = &'m mut Self> + 'static {
     fn limits() -> Vec<u8>;
     /// A call of a number: to do nothing but what shows (0), to make a thread (1), or to end (2).
     fn call(thread: u64, number: u64, deed: u64) -> Self::Call;
@@ -14,6 +14,8 @@ pub trait Player: Machine<Reply: PartialEq> {
     fn made_by(reply: &Self::Reply) -> Option<u64>;
     /// The calls that were played since the last look.
     fn take_played(&mut self) -> Vec<(u64, Self::Reply)>;
+    /// Whether a call was played.
+    fn has_played(&self, number: u64) -> bool;
     /// Whether a call was answered so.
     fn has_answered(&self, number: u64, reply: &Self::Reply) -> bool;
     /// From here on it lacks memory for a checkpoint, or has some.
@@ -32,6 +34,9 @@ impl Player for Model {
     }
     fn take_played(&mut self) -> Vec<(u64, Reply)> {
         std::mem::take(&mut self.played)
+    }
+    fn has_played(&self, number: u64) -> bool {
+        self.replies.contains_key(&number)
     }
     fn has_answered(&self, number: u64, reply: &Reply) -> bool {
         self.replies.get(&number) == Some(reply)
@@ -75,6 +80,7 @@ fn take_answers(bytes: &mut &[u8]) -> Option<BTreeMap<u64, Vec<u8>>> {
 impl Machine for Real {
     type Call = (u64, Record);
     type Reply = Result<histar::Reply, Refused>;
+    type View<'m> = &'m mut Real;
     const RULES: u64 = Kernel::RULES;
 
     fn boot(limits: &[u8]) -> Result<Real, String> {
@@ -89,6 +95,9 @@ impl Machine for Real {
         self.answers.insert(*number, bytes_of(&reply));
         self.played.push((*number, reply.clone()));
         reply
+    }
+    fn view(&mut self) -> &mut Real {
+        self
     }
     fn is_live(&self, thread: u64) -> bool {
         Machine::is_live(&self.kernel, thread)
@@ -158,6 +167,9 @@ impl Player for Real {
     }
     fn take_played(&mut self) -> Vec<(u64, Self::Reply)> {
         std::mem::take(&mut self.played)
+    }
+    fn has_played(&self, number: u64) -> bool {
+        self.answers.contains_key(&number)
     }
     fn has_answered(&self, number: u64, reply: &Self::Reply) -> bool {
         self.answers.get(&number) == Some(&bytes_of(reply))

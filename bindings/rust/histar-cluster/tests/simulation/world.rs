@@ -1,12 +1,19 @@
 //! Nodes and an engine, to which faults are done as a seed has it, and what was promised to callers.
+use crate::liar::{put_number, spelled, Change, Liar, Played};
 use crate::player::Player;
-use histar_cluster::engine::{Answer, Request};
+use histar_cluster::engine::{Answer, Pair, Request};
 use histar_cluster::memory::Store;
 use histar_cluster::{Fault, Item, Name, Node, Options, Output, Receipt, Replica, Start, Told, LOOK};
 use std::collections::{BTreeMap, BTreeSet};
 
 /// The nodes that call.
 const NODES: [&str; 3] = ["a", "b", "c"];
+
+/// Calls with such numbers are made by a node that lies, as threads of others.
+const OTHERS: u64 = 1 << 41;
+
+/// The node that lies, as the last of all that threads belong to.
+const EVIL: usize = 3;
 
 /// Where nothing changes in so many turns, a call that was submitted is answered.
 const SHORT: usize = 8;
@@ -22,9 +29,6 @@ const AWAY: u64 = 20;
 
 /// The same of a node that has just begun an incarnation.
 const NEW: u64 = 250;
-
-/// Calls with such numbers are made by a node that lies, as threads of others.
-const LIES: u64 = 1 << 40;
 
 /// Numbers as a seed gives them.
 pub struct Random(u64);
@@ -70,10 +74,10 @@ struct Process<P: Player> {
 impl<P: Player> Process<P> {
     /// The machine of a reader; none where the node has none, or lacks memory.
     fn reads(&mut self) -> Option<&mut P> {
-        if self.replica.as_mut().and_then(Replica::machine).is_none() {
+        if self.replica.as_mut().and_then(Replica::view).is_none() {
             self.replica = self.node.start()?.and_then(Start::open).ok();
         }
-        self.replica.as_mut().and_then(Replica::machine)
+        self.replica.as_mut().and_then(Replica::view)
     }
 }
 
@@ -95,6 +99,8 @@ pub struct Counts {
     pub unseen: u64,
     pub unknown: u64,
     pub refused: u64,
+    /// Nodes that have stopped at what a node changed that lies.
+    pub stopped: u64,
 }
 
 pub struct World<P: Player> {
@@ -107,8 +113,8 @@ pub struct World<P: Player> {
     held: BTreeMap<u64, Sent>,
     steps: u64,
     processes: Vec<Process<P>>,
-    /// The threads by which each node calls: its own, as far as it knows. The first is its own for good.
-    threads: [Vec<u64>; 3],
+    /// The threads by which each node calls, and the one that lies: its own, as far as it knows. The first is its own for good.
+    threads: [Vec<u64>; 4],
     starts: u64,
     calls: u64,
     tickets: u64,
@@ -116,12 +122,21 @@ pub struct World<P: Player> {
     /// What each call was answered where it was first played.
     played: BTreeMap<u64, P::Reply>,
     answered: Vec<(u64, P::Reply)>,
+    /// Of each call that was answered: the start of its node, and how many entries that had played by then.
+    tellers: Vec<(u64, u64)>,
+    /// Up to how many entries each start of a node has put what it had played, where others find it.
+    said: BTreeMap<u64, u64>,
+    /// Of a world in which a node changes what it has put, and how often it does.
+    liar: Option<Liar>,
+    lying: u64,
     never: BTreeSet<u64>,
     unseen: BTreeSet<u64>,
     is_quiet: bool,
     /// Faults are rarer by this factor.
     calm: u64,
     lacks_checkpoints: bool,
+    /// The fault at which each node stops, where one does.
+    expected: Option<fn(&Fault) -> bool>,
     pub counts: Counts,
     pub broken: Option<String>,
 }
@@ -147,18 +162,23 @@ impl<P: Player> World<P> {
             lies: 0,
             played: BTreeMap::new(),
             answered: Vec::new(),
+            tellers: Vec::new(),
+            said: BTreeMap::new(),
+            liar: (seed % 5 > 1).then(|| Liar::new(seed % 5 == 2)),
+            lying: [60, 0, 0][(seed / 5) as usize % 3],
             never: BTreeSet::new(),
             unseen: BTreeSet::new(),
             is_quiet: false,
             calm: [1, 2, 6][seed as usize % 3],
             lacks_checkpoints: false,
+            expected: None,
             counts: Counts::default(),
             broken: None,
         };
         if seed % 4 > 0 {
             world.begin();
         } else {
-            world.threads = [(); 3].map(|()| vec![2; 2]);
+            world.threads = [(); 4].map(|()| vec![2; 2]);
             NODES.iter().for_each(|node| world.start(node));
         }
         world
@@ -168,7 +188,7 @@ impl<P: Player> World<P> {
     fn begin(&mut self) {
         self.is_quiet = true;
         self.start(NODES[0]);
-        self.submits(0, &[(2, 1); 3], None);
+        self.submits(0, &[(2, 1); 4], None);
         self.settle(SHORT);
         for (to, thread) in std::mem::take(&mut self.threads[0]).into_iter().enumerate() {
             self.submits(0, &[], Some((thread, to)));
@@ -239,7 +259,11 @@ impl<P: Player> World<P> {
 
     /// A fault of a process or of the engine, or a lie.
     fn hurt(&mut self, process: usize) {
-        if self.fault(60) {
+        if self.liar.is_some() && self.aimed(self.lying) {
+            self.tamper(process);
+        } else if self.processes[process].node.fault().is_some() && self.random.below(4) == 0 {
+            self.restart(process); // (as its operator does, once others have gone on)
+        } else if self.fault(60) {
             self.restart(process);
         } else if self.fault(80) {
             self.pause(process);
@@ -285,50 +309,177 @@ impl<P: Player> World<P> {
     /// Mostly the leases of a node end.
     fn end_leases(&mut self, process: usize) {
         if self.random.below(4) > 0 {
-            let fences = |end: &str| format!("/sim/fence/{}{end}", NODES[process]).into_bytes();
+            let node = NODES.get(process).copied().unwrap_or("d");
+            let fences = |end: &str| format!("/sim/fence/{node}{end}").into_bytes();
             self.store.end_leases_of(&fences("/"), &fences("0"));
         }
     }
 
     fn restart(&mut self, process: usize) {
-        self.processes[process] = self.process(NODES[process]);
+        self.processes[process] = self.process(NODES.get(process).copied().unwrap_or("d"));
         self.end_leases(process);
+    }
+
+    /// A node that lies changes what it has put, or puts more. Then a node may be started, which reads what is left.
+    fn tamper(&mut self, process: usize) {
+        let Some(played) = self.played_by(process) else { return };
+        let Some(liar) = &mut self.liar else { return };
+        let changes: Vec<Change> = liar.transaction::<P>(&mut self.random, self.threads[EVIL][0], &played, &self.store);
+        self.store.transact(&changes);
+        match self.random.below(6) {
+            0 => self.restart(process),
+            1 => self.stop(process, 400, true),
+            2 => self.store.forget(),
+            _ => {}
+        }
     }
 
     /// A node that lies puts an entry of other nodes' threads, bytes that are no entry, or a checkpoint that no other agrees on.
     fn lie(&mut self) {
         self.lies += 1;
-        let (lies, place) = (self.lies, self.store.revision);
+        let (lies, key) = (self.lies, format!("/sim/log/e/evil/{}.00/01", spelled(self.store.revision)));
         match self.random.below(3) {
             0 => {
-                let mut value = vec![1, 0];
-                P::put_call(&P::call(2, LIES + lies, 0), &mut value);
-                self.store.put(format!("/sim/log/e/evil/{}.00/01", spelled(place)).as_bytes(), &value, None);
+                let Some(played) = self.played_by(0) else { return };
+                let mut item = vec![0];
+                P::put_call(&P::call(2, OTHERS + lies, 0), &mut item);
+                self.store.put(key.as_bytes(), &crate::liar::entry(&played, &[0; 16], &item), None);
             }
-            1 => self.store.put(format!("/sim/log/e/evil/{}.00/01", spelled(place)).as_bytes(), b"\x01\x00???", None),
+            1 => self.store.put(key.as_bytes(), b"\x02\x00???", None),
             _ => self.forge(),
         }
     }
 
-    /// Puts a checkpoint at a later place, with another last reply.
+    /// Whether a node changes what it has put: then a node that read something else than another may stop, until it is told so it answers by that.
+    fn is_tampered_with(&self) -> bool {
+        self.liar.as_ref().is_some_and(|liar| !liar.is_mild)
+    }
+
+    /// A node that lies has a fence without a lease, and says that it has played nothing: the log is dropped behind four marks all the same.
+    fn keep_back(&mut self) {
+        self.store.put(b"/sim/fence/evil/1", &[0], None);
+        for at in 0..48 {
+            let process = at % 3;
+            self.submits(process, &[(self.threads[process][0], 0)], None);
+            self.settle(SHORT);
+        }
+        self.settle(LONG);
+        let of = |node: &str| {
+            let (from, to) = (format!("/sim/log/e/{node}/"), format!("/sim/log/e/{node}0"));
+            self.store.range(from.as_bytes(), to.as_bytes(), self.store.revision).len()
+        };
+        if NODES.into_iter().map(of).sum::<usize>() > 44 {
+            self.breaks("a node that stands still keeps the log");
+        }
+    }
+
+    /// A node that lies puts rules that nobody knows, at which each node stops. An operator voids them, and with them what its incarnation put after
+    /// them: then all go on.
+    fn void(&mut self) {
+        let Some(played) = self.played_by(0) else { return };
+        let lane = format!("/sim/log/e/evil/{}.00/", spelled(self.store.revision));
+        let rules = crate::liar::entry(&played, &[0; 16], &[2, 99]);
+        self.expected = Some(|fault| matches!(fault, Fault::UnknownRules { rules: 99, .. }));
+        self.store.put(format!("{lane}01").as_bytes(), &rules, None);
+        let place = self.store.revision;
+        self.store.put(format!("{lane}02").as_bytes(), b"x", None);
+        self.settle(SHORT);
+        if self.processes.iter().any(|it| it.node.fault() != Some(&Fault::UnknownRules { rules: 99, place })) {
+            self.breaks("a node does not stop at rules that it does not know");
+        }
+        self.expected = None;
+        self.store.put(&histar_cluster::void(&name("sim"), place), b"", None);
+        (0..self.processes.len()).for_each(|process| self.restart(process));
+        self.settle(LONG);
+        self.holds();
+    }
+
+    /// What the cluster began with is changed: no node goes on.
+    fn change_boot(&mut self) {
+        self.counts.faults += 1;
+        let boot = self.store.range(b"/sim/boot", b"/sim/boot0", self.store.revision).remove(0);
+        self.expected = Some(|fault| *fault == Fault::OtherBoot);
+        let other = [&boot.value[..boot.value.len() - 1], b"z"].concat();
+        self.store.put(&boot.key, &other, None);
+        self.settle(LONG);
+        if self.processes.iter().any(|it| it.node.fault() != Some(&Fault::OtherBoot)) {
+            self.breaks("a node goes on where what the cluster began with was changed");
+        }
+    }
+
+    /// A node that lies takes back an entry that others have played, and all nodes are started anew: once they have said what they had played, by
+    /// points or by entries, none goes on without it.
+    fn cut(&mut self) {
+        let going: Vec<usize> =
+            (0..self.processes.len()).filter(|it| self.processes[*it].node.fault().is_none()).collect();
+        let Some((&first, played)) = going.first().and_then(|first| Some((first, self.played_by(*first)?))) else {
+            return;
+        };
+        let call = [(self.threads[first % EVIL][0], 0)];
+        self.submits(first, &call, None);
+        let Some(liar) = &mut self.liar else { return };
+        let (key, value) = liar.call::<P>(self.threads[EVIL][0], &played, self.store.revision);
+        self.store.transact(&[(key.clone(), value)]);
+        let way = self.random.below(5);
+        let stays = if way < 2 {
+            // (what it answered no other has heard of, and it goes on)
+            self.hurries(&[first]);
+            self.says_all(&[first]);
+            vec![first]
+        } else if way == 2 {
+            self.settle(LONG);
+            self.says_all(&going);
+            Vec::new()
+        } else {
+            self.hurries(&[first]);
+            self.submits(first, &call, None);
+            self.hurries(&[first]);
+            Vec::new()
+        };
+        self.store.transact(&[(key, None)]);
+        self.counts.faults += 1;
+        let others: Vec<usize> = (0..self.processes.len()).filter(|it| !stays.contains(it)).collect();
+        others.iter().for_each(|process| self.restart(*process));
+        (0..3).for_each(|_| self.hurries(&others));
+        self.settle(LONG);
+        self.holds();
+    }
+
+    /// Nodes have said, or will say, all that they have played.
+    fn says_all(&mut self, processes: &[usize]) {
+        self.said.extend(processes.iter().map(|process| (self.processes[*process].start, u64::MAX)));
+    }
+
+    /// What is on its way arrives, and is told to some nodes, before they look around.
+    fn hurries(&mut self, processes: &[usize]) {
+        for _ in 0..6 {
+            (0..20).for_each(|_| self.deliver());
+            for process in processes {
+                (0..20).for_each(|_| self.report(*process));
+                self.turn(*process);
+            }
+        }
+    }
+
+    /// What a node has played.
+    fn played_by(&self, process: usize) -> Option<Played> {
+        let status = self.processes[process].node.status()?;
+        Some(Played { entries: status.entries, digest: status.digest })
+    }
+
+    /// Puts a checkpoint after more entries, after which no honest node compares states, with another last reply.
     fn forge(&mut self) {
         let states = self.store.range(b"/sim/state/", b"/sim/state0", self.store.revision);
         let Some(state) = states.iter().rev().find(|pair| !pair.key.starts_with(b"/sim/state/evil")) else { return };
-        self.store.put(b"/sim/evil", b"", None); // (a place that no entry has: of another's place no node is in doubt)
-        let place = self.store.revision;
-        let rest = 1 + state.value[1..].iter().position(|byte| byte & 128 == 0).expect("a place") + 1;
-        let mut value = vec![1];
-        let mut left = place;
-        while left >= 128 {
-            value.push(left as u8 | 128);
-            left >>= 7;
-        }
-        value.push(left as u8);
+        let entries = place_in(&state.key).expect("a number of entries") + 3;
+        let rest = 1 + state.value[1..].iter().position(|byte| byte & 128 == 0).expect("a number") + 1;
+        let mut value = vec![2];
+        put_number(&mut value, entries);
         value.extend_from_slice(&state.value[rest..]);
         *value.last_mut().expect("a state") ^= 1;
         let digest = crate::digest(&value);
-        self.store.put(format!("/sim/state/evil/{}", spelled(place)).as_bytes(), &value, None);
-        self.store.put(format!("/sim/log/a/evil/{}", spelled(place)).as_bytes(), &digest, None);
+        self.store.put(format!("/sim/state/evil/{}", spelled(entries)).as_bytes(), &value, None);
+        self.store.put(format!("/sim/log/a/evil/{}", spelled(entries)).as_bytes(), &digest, None);
     }
 
     /// A request arrives at the engine, and is answered.
@@ -342,7 +493,7 @@ impl<P: Player> World<P> {
         if self.fault(80) {
             return self.told(&sent, Answer::Lost);
         }
-        if let Some(place) = place_of_mark(&sent.request).filter(|_| sent.process < 3 && self.aimed(100)) {
+        if let Some(place) = place_of_mark(&self.store, &sent.request).filter(|_| sent.process < 3 && self.aimed(100)) {
             // (it dies before its checkpoint or its agreement is put, and is started anew after some time)
             self.restart(sent.process);
             self.processes[sent.process].left = Some(place);
@@ -350,6 +501,7 @@ impl<P: Player> World<P> {
             return;
         }
         let page = 1 + self.random.below(6) as usize;
+        self.says(&sent);
         let answer = self.store.act(&sent.request, page);
         if let Request::Watch { from, to, after } = &sent.request {
             let watch = Watch { number: sent.number, from: from.clone(), to: to.clone(), after: *after };
@@ -367,6 +519,18 @@ impl<P: Player> World<P> {
         if self.random.below(2) == 0 {
             self.turn(process);
         }
+    }
+
+    /// An entry and a point say up to how many entries their node had played.
+    fn says(&mut self, sent: &Sent) {
+        let Request::Put { key, value, .. } = &sent.request else { return };
+        let number = match (key.starts_with(b"/sim/log/e/"), key.starts_with(b"/sim/log/s/")) {
+            (true, _) => &value[1..],
+            (_, true) => &value[..],
+            _ => return,
+        };
+        let said = self.said.entry(sent.start).or_default();
+        *said = number_in(number).max(*said);
     }
 
     fn running(&self, sent: &Sent) -> Option<usize> {
@@ -416,7 +580,7 @@ impl<P: Player> World<P> {
             self.store.forget();
         }
         let incarnation = it.node.status().and_then(|status| status.incarnation);
-        if let Some(machine) = it.node.machine() {
+        if let Some(machine) = it.node.view() {
             machine.lack_memory(lacks);
         }
         let reached = it.node.seen();
@@ -442,15 +606,19 @@ impl<P: Player> World<P> {
 
     /// Looks at what a node has played, sends and tells.
     fn look(&mut self, process: usize, before: u64) {
-        let played = self.processes[process].node.machine().map(Player::take_played);
+        let played = self.processes[process].node.view().map(Player::take_played);
         for (number, reply) in played.unwrap_or_default() {
-            if number >= LIES {
+            if number >= OTHERS {
                 self.breaks("a call of another node's thread was played");
+            }
+            let first = self.played.entry(number).or_insert(reply.clone()).clone();
+            if self.is_tampered_with() {
+                continue; // (until a node that read something else has stopped)
             }
             if self.never.contains(&number) {
                 self.breaks("a call was played that was told never to be made");
             }
-            if *self.played.entry(number).or_insert(reply.clone()) != reply {
+            if first != reply {
                 self.breaks("a call was answered in two ways");
             }
         }
@@ -463,7 +631,11 @@ impl<P: Player> World<P> {
             }
             let is_right = match fault {
                 Fault::OtherEngine => self.store.id != 1,
-                Fault::NoCheckpoint => self.lacks_checkpoints,
+                Fault::NoCheckpoint if self.lacks_checkpoints => true,
+                fault if self.expected.is_some_and(|is_expected| is_expected(fault)) => true,
+                Fault::NoCheckpoint | Fault::Gap { .. } | Fault::Differs { .. } | Fault::UnknownRules { .. } => {
+                    self.is_tampered_with()
+                }
                 _ => false,
             };
             if !is_right {
@@ -501,19 +673,22 @@ impl<P: Player> World<P> {
                     self.breaks("a call was answered by an engine that lost calls");
                 }
                 self.counts.answered += 1;
+                let it = &self.processes[process];
+                let teller = (it.start, it.node.status().map_or(u64::MAX, |status| status.entries));
                 let already = self.answered.len();
                 if let (Some(Told::Done), Some((thread, to))) = (told.last(), handed) {
-                    self.threads[process].retain(|it| *it != thread || *it == 2);
+                    self.threads[process % EVIL].retain(|it| *it != thread || *it == 2);
                     self.threads[to].push(thread);
                 }
                 for (number, told) in numbers.iter().zip(told) {
                     match told {
                         Told::Reply(reply) => {
-                            self.threads[process].extend(P::made_by(&reply));
-                            if self.played.get(number) != Some(&reply) {
+                            self.threads[process % EVIL].extend(P::made_by(&reply));
+                            if !self.is_tampered_with() && self.played.get(number) != Some(&reply) {
                                 self.breaks("a caller was told another reply");
                             }
                             self.answered.push((*number, reply));
+                            self.tellers.push(teller);
                         }
                         Told::OtherNode => self.counts.refused += 1,
                         Told::Done => {}
@@ -529,7 +704,7 @@ impl<P: Player> World<P> {
             }
             Receipt::NeverMade => {
                 self.counts.never += 1;
-                if numbers.iter().any(|number| self.played.contains_key(number)) {
+                if !self.is_tampered_with() && numbers.iter().any(|number| self.played.contains_key(number)) {
                     self.breaks("a call was told never to be made, and was played");
                 }
                 self.never.extend(numbers);
@@ -545,8 +720,11 @@ impl<P: Player> World<P> {
     /// A node sees the last of the first so many answered calls.
     fn sees(&mut self, process: usize, count: usize) {
         let Some((number, reply)) = count.checked_sub(1).map(|last| self.answered[last].clone()) else { return };
+        if self.is_tampered_with() {
+            return; // (each node reads on until it has stopped)
+        }
         let it = &mut self.processes[process];
-        let seen = it.node.machine().map(|it| it.has_answered(number, &reply));
+        let seen = it.node.view().map(|it| it.has_answered(number, &reply));
         if seen == Some(false) || (process == 0 && it.reads().is_some_and(|it| !it.has_answered(number, &reply))) {
             self.breaks("a read is behind what its caller has seen");
         }
@@ -569,7 +747,8 @@ impl<P: Player> World<P> {
         let numbers: Vec<u64> = (first..=self.calls).collect();
         let call = |(number, (thread, deed)): (&u64, &(u64, u64))| Item::Call(P::call(*thread, *number, *deed));
         let mut items: Vec<_> = numbers.iter().zip(calls).map(call).collect();
-        items.extend(handed.map(|(thread, to)| Item::HandOver { thread, to: name(NODES[to]) }));
+        let node = |to: usize| name(NODES.get(to).copied().unwrap_or("evil"));
+        items.extend(handed.map(|(thread, to)| Item::HandOver { thread, to: node(to) }));
         let (ticket, answered) = (self.tickets, self.answered.len());
         let it = &mut self.processes[process];
         if it.node.fault().is_none() {
@@ -609,10 +788,18 @@ impl<P: Player> World<P> {
         if self.broken.is_some() {
             return;
         }
+        match self.liar {
+            Some(Liar { is_mild: true, .. }) => {
+                self.keep_back();
+                self.void();
+            }
+            Some(_) => return self.cut(),
+            None => {}
+        }
         match self.random.below(3) {
             0 => self.lose_disks(),
             1 => self.break_checkpoints(),
-            _ => {}
+            _ => self.change_boot(),
         }
     }
 
@@ -625,12 +812,17 @@ impl<P: Player> World<P> {
         if self.broken.is_some() {
             return;
         }
-        if self.processes.iter().any(|process| !process.waiting.is_empty()) {
+        self.counts.stopped += self.processes.iter().filter(|it| it.node.fault().is_some()).count() as u64;
+        let waits = |it: &Process<P>| it.node.fault().is_none() && !it.waiting.is_empty();
+        if self.processes.iter().any(waits) {
             self.breaks("a caller is told nothing");
         }
-        let states = self.states();
-        if states.iter().any(|state| *state != states[0]) {
+        let states: Vec<_> = self.states().into_iter().flatten().collect();
+        if states.iter().any(|state| *state != states[0]) || (!self.is_tampered_with() && states.len() < 4) {
             self.breaks("nodes differ at the end");
+        }
+        if self.is_tampered_with() {
+            return self.holds();
         }
         if self.answered.iter().any(|(number, _)| !self.played.contains_key(number)) {
             self.breaks("a call is lost that was answered");
@@ -642,6 +834,23 @@ impl<P: Player> World<P> {
             .any(|number| !self.played.contains_key(number) && !self.store.has_put(&number.to_be_bytes()))
         {
             self.breaks("a call is lost that was told to be made");
+        }
+    }
+
+    /// What was told holds at each node that goes on, whatever a node that lies has changed, once whoever told it has said what it had played.
+    fn holds(&mut self) {
+        let said = |(start, entries): &(u64, u64)| self.said.get(start).is_some_and(|said| said >= entries);
+        let sure = self.answered.iter().zip(&self.tellers).filter(|(_, teller)| said(teller));
+        let sure: Vec<(u64, P::Reply)> = sure.map(|(answer, _)| answer.clone()).collect();
+        let mut broken = false;
+        for it in &mut self.processes {
+            if let Some(machine) = it.node.view() {
+                broken |= sure.iter().any(|(number, reply)| !machine.has_answered(*number, reply));
+                broken |= self.never.iter().any(|number| machine.has_played(*number));
+            }
+        }
+        if broken {
+            self.breaks("a call was told that is another one by what a node changed that lies");
         }
     }
 
@@ -689,6 +898,11 @@ impl<P: Player> World<P> {
             pair.value[at] ^= 1;
             self.store.put(&pair.key, &pair.value, None);
         }
+        if self.random.below(2) == 0 {
+            // (and with no entry at all none is missing between two others)
+            let (from, to) = (b"/sim/log/e/".to_vec(), b"/sim/log/e0".to_vec());
+            self.store.act(&Request::Drop { from, to }, 1);
+        }
         self.lacks_checkpoints = true;
         self.start("e");
         self.settle(LONG);
@@ -718,14 +932,27 @@ impl<P: Player> World<P> {
 }
 
 /// The place of a mark whose checkpoint or agreement is put.
-fn place_of_mark(request: &Request) -> Option<u64> {
+fn place_of_mark(store: &Store, request: &Request) -> Option<u64> {
     match request {
-        Request::Put { key, .. } if key.starts_with(b"/sim/state/") || key.starts_with(b"/sim/log/a/") => place_in(key),
+        Request::Put { key, value, .. } if key.starts_with(b"/sim/state/") => Some(place_of(value)),
+        Request::Put { key, .. } if key.starts_with(b"/sim/log/a/") => {
+            let entries = place_in(key)?;
+            let states = store.range(b"/sim/state/", b"/sim/state0", store.revision);
+            let found = states.iter().find(|pair| place_in(&pair.key) == Some(entries));
+            Some(found.map_or(store.revision, |pair| place_of(&pair.value)))
+        }
         _ => None,
     }
 }
 
-/// The place that a key ends with.
+/// The place of a checkpoint.
+fn place_of(checkpoint: &[u8]) -> u64 {
+    let rest = &checkpoint[1..];
+    let entries = rest.iter().position(|byte| byte & 128 == 0).expect("a number") + 1;
+    number_in(&rest[entries..])
+}
+
+/// The place or the number of entries that a key ends with.
 fn place_in(key: &[u8]) -> Option<u64> {
     let (_, text) = std::str::from_utf8(key).ok()?.rsplit_once('/')?;
     u64::from_str_radix(text.get(1..)?, 16).ok()
@@ -734,16 +961,16 @@ fn place_in(key: &[u8]) -> Option<u64> {
 /// Whether two nodes agree on a checkpoint of a later place, or nodes but this one have dropped their entries up to it.
 fn has_gone_on(store: &Store, node: &str, place: u64) -> bool {
     let range = |from: &[u8], to: &[u8]| store.range(from, to, store.revision).into_iter();
-    let places = |from, to| range(from, to).filter_map(|pair| place_in(&pair.key)).filter(|it| *it > place);
-    let agreed: Vec<u64> = places(b"/sim/log/a/", b"/sim/log/a0").collect();
-    let is_agreed = |place: u64| agreed.iter().filter(|it| **it == place).count() >= 2;
+    let agreed: Vec<u64> = range(b"/sim/log/a/", b"/sim/log/a0").filter_map(|pair| place_in(&pair.key)).collect();
+    let is_agreed = |entries: u64| agreed.iter().filter(|it| **it == entries).count() >= 2;
+    let is_later = |pair: Pair| place_of(&pair.value) > place && place_in(&pair.key).is_some_and(is_agreed);
     let entries = |of: &str| range(format!("/sim/log/e/{of}/").as_bytes(), format!("/sim/log/e/{of}0").as_bytes());
     let has_dropped = |of: &&str| *of == node || entries(of).all(|pair| pair.created > place);
-    places(b"/sim/state/", b"/sim/state0").any(is_agreed) || NODES.iter().all(has_dropped)
+    range(b"/sim/state/", b"/sim/state0").any(is_later) || NODES.iter().all(has_dropped)
 }
 
-/// A number as keys spell it.
-fn spelled(number: u64) -> String {
-    let digits = format!("{number:x}");
-    format!("{:x}{digits}", digits.len() - 1)
+/// The number that a value begins with.
+fn number_in(bytes: &[u8]) -> u64 {
+    let len = bytes.iter().position(|byte| byte & 128 == 0).expect("a number") + 1;
+    bytes[..len].iter().rev().fold(0, |number, byte| number << 7 | u64::from(byte & 127))
 }
