@@ -22,7 +22,7 @@ from gate.starts import is_wrapped, shown_at_terminal
 
 CONFINE = "out/confine"
 UNABLE = 69
-ATTACKS = (*confine_attacks.REPORTS, *confine_attacks.INODES, *confine_attacks.MEANS, *confine_attacks.HELD, *confine_attacks.LABELS, *confine_attacks.STARTS)
+ATTACKS = (*confine_attacks.REPORTS, *confine_attacks.OUTSIDE, *confine_attacks.INODES, *confine_attacks.MEANS, *confine_attacks.HELD, *confine_attacks.LABELS, *confine_attacks.STARTS)
 
 # An ordinary user's number, as which root plays scenes too.
 NOBODY = 65534
@@ -30,6 +30,9 @@ AS_NOBODY = ["setpriv", "--reuid", str(NOBODY), "--regid", str(NOBODY), "--clear
 
 # Starts a program, as root, where /dev/fuse can't be opened: the broker is then asked of each call that names a file.
 WITHOUT_FUSE = ["unshare", "--mount", "sh", "-c", 'mount --bind /dev/fuse /dev/fuse && mount -o remount,bind,nodev /dev/fuse && exec "$@"', "sh"]
+
+# Starts a program, as root, where a command was given first that mounts something for it alone.
+LAYING = ["unshare", "--mount", "sh", "-c", 'eval "$0"; shift; exec "$@"']
 
 # A program that adds a line to its report once it has come to its end, and ends as it ended.
 NOTING = 'sh -c "$PROGRAM"; s=$?; echo ended >> "$R"; exit $s'
@@ -152,8 +155,9 @@ class Play:
     def __init__(self, confine, room, scene, user, by=()):
         self.confine, self.room, self.scene, self.user, self.by = confine, room, scene, user, by
         self.rooms = Rooms(room, user)
-        with open(self.rooms.paths["F"], "w", encoding="utf-8") as it:
-            it.write(scene.policy)
+        for name, it in (("F", scene.policy), ("R", scene.old)):
+            with open(self.rooms.paths[name], "w", encoding="utf-8") as file:
+                file.write(it)
         self.watched = Watched(self.rooms)
 
     def program(self):
@@ -163,14 +167,16 @@ class Play:
 
     def words(self):
         words = self.rooms.words(self.scene.words or (BY_POLICY if self.scene.policy else ONE))
-        return [self.confine, *words, "--audit", f"{self.room}/dump", "--", *self.program()] if self.confine else self.program()
+        passed = [it for name in (*self.rooms.paths, "PROGRAM") for it in ("--env", name)]
+        return [self.confine, *words, *passed, "--audit", f"{self.room}/dump", "--", *self.program()] if self.confine else self.program()
 
     def run(self, watched):
         as_user = AS_NOBODY if self.user and not os.getuid() else []
         path = os.environ["PATH"] if self.confine else f"{os.path.dirname(self.room)}/bare:{os.environ['PATH']}"
-        env = {**os.environ, **self.rooms.paths, "PROGRAM": self.scene.program or "", "PATH": path}
+        env = {**os.environ, **self.rooms.paths, "PROGRAM": self.scene.program or "", "KEPT": OWN, "PATH": path}
+        laid = LAYING + [self.scene.laid, "sh"] if self.scene.laid else []
         how = {"stdout": subprocess.PIPE, "stderr": subprocess.PIPE, "text": True, "errors": "replace", "timeout": 300}
-        self.done = subprocess.run([*self.by, *as_user, *self.words()], input=self.scene.stdin, env=env, cwd=self.room, **how)
+        self.done = subprocess.run([*self.by, *laid, *as_user, *self.words()], input=self.scene.stdin, env=env, cwd=self.room, **how)
         watched.said, watched.status = self.done.stdout + self.done.stderr, self.done.returncode
 
     def seen(self):
@@ -234,7 +240,18 @@ WRONG_WORDS = (
 
 # Policies that are none, and a piece of the line that says so.
 WRONG_POLICIES = (
-    ("categories = [", "policy:1: "),
+    ("categories = [", "policy:1: a bracket is not closed"),
+    ("x = [}", "policy:1: brackets don't close each other"),
+    ("x = ]", "policy:1: brackets don't close each other"),
+    ("x = " + "[" * 9, "policy:1: brackets nest too deep"),
+    ("x" + ".x" * 20_000 + " = 1", "policy:1: a key has too many dots"),
+    ("x" + ".x" * 50_000 + " = 1", "policy: a policy has at most 65536 bytes"),
+    ("#" * 65_537, "policy: a policy has at most 65536 bytes"),
+    ('x = "', "policy:1: a text is not closed"),
+    ("x = 3\ny = \"\"\"a\"\"\"", "policy:2: a text stands on one line"),
+    ("x = \\", "policy:1: "),
+    ('categories = ["first"]\nread = [{folder = "secret", label = {first = true}}]', "policy:2: a level is from 0 to 3"),
+    ('categories = ["first"]\nread = [{folder = "secret", label = {first = 3.0}}]', "policy:2: a level is from 0 to 3"),
     ("colours = []", "no word of a policy: colours"),
     ("categories = 3", "a list is wanted"),
     ('categories = ["First"]', "a name has up to 31"),
@@ -379,7 +396,8 @@ def tells_flows(auditor, room):
     """Whether the dump of a run tells that its secret can have reached its report and not what is printed."""
     rooms = Rooms(room)
     rooms.end()
-    words = [CONFINE, "--explain", "--audit", f"{room}/dump", *rooms.words(TWO), "--", "/bin/sh", "-c", "cat $S/key > $R; echo x > $U; echo done"]
+    passed = [it for name in rooms.paths for it in ("--env", name)]
+    words = [CONFINE, "--explain", "--audit", f"{room}/dump", *rooms.words(TWO), *passed, "--", "/bin/sh", "-c", "cat $S/key > $R; echo x > $U; echo done"]
     done = subprocess.run(words, env={**os.environ, **rooms.paths}, stdout=subprocess.PIPE, stderr=subprocess.PIPE, text=True)
     report, secret = rooms.paths["R"], rooms.paths["S"]
     return reached(auditor, f"{room}/dump", done.stderr, secret) == [report]
@@ -428,7 +446,7 @@ def try_scenes(report, room, auditor, more):
     scenes, unclean = (*SCENES, *POLICY_SCENES, *ATTACKS, *more), []
     for user, by in ways(report):
         for scene in scenes:
-            if min(user, 1) in scene.users and not try_scene(report, confine, f"{room}/scene", scene, user, auditor, by):
+            if min(user, 1) in scene.users and not (scene.laid and os.getuid()) and not try_scene(report, confine, f"{room}/scene", scene, user, auditor, by):
                 unclean.append(scene.name)
     if auditor:
         report.counts(not unclean, f"confine: the dumps of all scenes audit clean{unclean or ''}")

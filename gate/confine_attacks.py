@@ -40,6 +40,23 @@ REPORTS = (
     Scene("makes a report of no secret writable and writes it", READ + "chmod 600 $Q; ln -s $Q /tmp/l$$; echo $k > /tmp/l$$", words=OPEN, leaks="text", status=None),
 )
 
+# What stands outside, before the program begins.
+TEXT_OUT = READ + "echo $k > $R; sleep 0.3; : > $R"
+OUTSIDE = (
+    Scene("empties its report while it runs", READ + ": > $R; sleep 0.3; echo new > $R", report="new\n", old="old\n", leaks="report emptied"),
+    Scene("adds to what its report had", READ + "echo $k >> $R", report=f"old\n{SECRET}\n", old="old\n"),
+    Scene("leaves no plain file in its report's place", READ + "rm -f $R; mkfifo $R", status=0),
+    Scene("leaves no plain file in its report's place, and has read nothing", "rm -f $R; mkfifo $R", status=70),
+    Scene("prints what its user has in the environment", "echo ${KEPT:-none}", printed="none\n", leaks="own"),
+    Scene("has a home of its own", "echo $HOME $TMPDIR; cd; pwd", printed="/tmp /tmp\n/tmp\n"),
+    Scene("writes a report that has a name in what is public", TEXT_OUT, status=2, laid='ln -f "$R" "$P/link"', is_noted=False, leaks="report linked"),
+    Scene("writes a report that all may read", READ + "echo $k > $R; sleep 0.3", report=SECRET + "\n", laid='chmod 644 "$R"', leaks="report readable"),
+    Scene("reads a secret that is mounted in what is public", "cat $P/in/key", status=2, laid='mkdir "$P/in"; mount --bind "$S" "$P/in"', is_noted=False, leaks="text"),
+    Scene("reads a secret that is mounted as what is public", "cat $P/key", status=2, laid='mount --bind "$S" "$P"', is_noted=False, leaks="text"),
+    Scene("tells by a lock in what is mounted in what is public", knows(opens("<$ENV{P}/in/own") + "flock(F,2)"), status=2, laid='mkdir "$P/in"; mount --bind "$O" "$P/in"', is_noted=False, leaks="own lock"),
+    Scene("reads a secret that is mounted in /usr", "cat /usr/share/man/key", status=2, laid='mount --bind "$S" /usr/share/man', is_noted=False, leaks="text"),
+)
+
 # By a public file: what is kept with the file, and not in it.
 OF_PUBLIC = opens("<$ENV{P}/text")
 INODES = (

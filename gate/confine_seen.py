@@ -114,6 +114,8 @@ class Watched:
             "rights": lambda: os.stat(self.text).st_mode & 0o7777 != 0o644,
             "time": lambda: int(os.stat(self.text).st_mtime) == 14,
             "lock": lambda: not is_free(self.text),
+            "own lock": lambda: not is_free(self.rooms.paths["O"] + "/own"),
+            "report linked": lambda: SECRET in self.rooms.read("P", "link"),
             "part lock": lambda: not is_free(self.text, part=True),
             "lease": lambda: not is_open(self.text),
             "hint": lambda: hint_of(self.text) != 0,
@@ -127,6 +129,8 @@ class Watched:
             "report lease": lambda: not is_open(self.report),
             "report hint": lambda: hint_of(self.report) != 0,
             "report length": lambda: os.path.getsize(self.report) == 4242,
+            "report readable": lambda: SECRET in self.rooms.read("R") and os.stat(self.report).st_mode & 0o077 != 0,
+            "report emptied": lambda: os.path.getsize(self.report) == 0,
             "report gone": lambda: not os.path.exists(self.report),
             "open": lambda: os.path.islink(self.rooms.paths["Q"]),
         }

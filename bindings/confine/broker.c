@@ -322,7 +322,7 @@ int serve(struct plan *plan, struct family *family)
     are_copied = copy_reports(plan, family);
     tell_refused(plan, family->prints);
     if (ended_by) return 128 + ended_by;
-    if (!are_copied) return ENDS_FAULT;
     if (!family->prints) return 0;
+    if (!are_copied) return ENDS_FAULT;
     return status < 0 ? ENDS_FAULT : status;
 }

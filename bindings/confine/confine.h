@@ -31,7 +31,7 @@ extern "C" {
 #define ENDS _Noreturn
 #endif
 
-enum { MOST_CATEGORIES = 8, MOST_SECRETS = 8, MOST_REPORTS = 8, MOST_OPEN = 32, MOST_GATES = 8, MOST_WORDS = 16, MOST_RUNS = 16 };
+enum { MOST_CATEGORIES = 8, MOST_SECRETS = 8, MOST_REPORTS = 8, MOST_OPEN = 32, MOST_GATES = 8, MOST_WORDS = 16, MOST_RUNS = 16, MOST_PASSED = 64 };
 
 /* The longest name of a category that a policy gives, or of a gate, in bytes. */
 enum { MOST_NAME = 31 };
@@ -98,6 +98,8 @@ struct plan {
     char open[MOST_OPEN][PATH_MAX]; /* folders that it may read at any label */
     int category_count, secret_count, report_count, folder_count, gate_count, open_count;
     struct levels born, clearance; /* the program's label at its start, and the highest that it may have */
+    const char *passed[MOST_PASSED]; /* names of the environment that the program is given too */
+    int passed_count;
     bool explains;
     const char *dump; /* where the log's dump goes, or NULL */
     char **program;
@@ -123,6 +125,7 @@ struct family {
     bool holds_report[MOST_REPORTS]; /* it was given the report to write, for good */
     bool holds_gate[MOST_GATES];     /* it was given a way to the gate, for good */
     bool replaces[MOST_REPORTS];     /* it opened the report not only to add to it */
+    bool empties[MOST_REPORTS];      /* it opened the report as an empty one */
     ino_t placed[MOST_REPORTS];      /* the file that stood for the report at first */
     struct world world;
 };
@@ -160,10 +163,26 @@ void keep_apart(const struct plan *plan);
 /* The folders that the plan's reports stand in. */
 void find_folders(struct plan *plan);
 
+/* ---- mounts.c ---- */
+
+/* Whether a path lies in a folder, by whatever name that is reached too. */
+bool is_placed_below(const char *path, const char *folder);
+
+/* Whether something of a path, or that it lies in, is mounted below a folder. */
+bool is_mounted_below(const char *path, const char *folder);
+
+/* Where below a folder something is mounted, or NULL. */
+const char *mounted_in(const char *folder);
+
 /* ---- policy.cpp ---- */
 
 /* Adds what a policy file says. It ends with ENDS_USAGE and a line where the file is none. */
 void read_policy(const char *path, struct plan *plan);
+
+/* ---- environment.c ---- */
+
+/* The environment that the program is given. */
+char **environment_of(const struct plan *plan);
 
 /* ---- decisions.c: what the label kernel says ---- */
 
@@ -218,7 +237,7 @@ void tell_refused(const struct plan *plan, bool prints);
 
 /* What is started. */
 struct begun {
-    char **words, **environment; /* NULL where it is that of confine */
+    char **words, **environment;
     const char *folder;          /* where it begins; NULL where that is the world's root */
     bool has_input;              /* the broker fills its standard input */
 };

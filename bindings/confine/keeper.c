@@ -81,7 +81,7 @@ _Noreturn static void become_program(const struct ends *ends)
     if ((listener = load_filter(doors_of() != NULL)) < 0) unable("seccomp's notifications");
     if (!send_descriptor(3, listener) || close(listener) || read(3, &may_go, 1) != 1) _exit(ENDS_FAULT);
     if (dup2(4, 2) < 0 || close(4)) _exit(ENDS_FAULT);
-    if (begun->environment) environ = begun->environment;
+    environ = begun->environment;
     add_run();
     if (!begun->folder || !chdir(begun->folder)) execvp(begun->words[0], begun->words);
     dprintf(2, "confine: %s: %s\n", begun->words[0], strerror(errno));

@@ -54,6 +54,7 @@ int main(int count, char **words)
     keep_apart(&plan);
     find_folders(&plan);
     begun.words = plan.program;
+    begun.environment = environment_of(&plan);
     begun.folder = begins_in(&plan, here);
     begun.has_input = has_input(&plan);
     begin_start(&plan, &begun, &family.world);

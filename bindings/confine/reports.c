@@ -61,11 +61,11 @@ void begin_report(const struct plan *plan, struct family *family, int i, int fla
 {
     const struct report *report = &plan->reports[i];
     struct stat found;
-    int file = placed(family, report), emptied;
+    int file = placed(family, report);
     if (file >= 0 && !fstat(file, &found) && found.st_ino == family->placed[i]) allow(file, 0600);
     if (file >= 0) close(file);
-    if (!(flags & (O_APPEND | O_TRUNC))) family->replaces[i] = true;
-    if ((flags & O_TRUNC) && (emptied = reopen(report->file, O_WRONLY | O_TRUNC)) >= 0) close(emptied);
+    if (flags & O_TRUNC) family->empties[i] = true;
+    else if (!(flags & O_APPEND)) family->replaces[i] = true;
 }
 
 static bool copy(int from, int to)
@@ -99,9 +99,9 @@ static bool copy_report(struct plan *plan, struct family *family, int i, int fil
         return false;
     }
     is_new = found.st_ino != family->placed[i];
-    if (!found.st_size && !is_new) return true;
+    if (!found.st_size && !is_new && !family->empties[i]) return true;
     if (!holds_report(plan, family, i)) return true;
-    return copy_out(&plan->reports[i], file, is_new || family->replaces[i]);
+    return copy_out(&plan->reports[i], file, is_new || family->replaces[i] || family->empties[i]);
 }
 
 bool copy_reports(struct plan *plan, struct family *family)
