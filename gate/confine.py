@@ -8,12 +8,13 @@ import itertools
 import os
 import re
 import shutil
+import signal
 import subprocess
 import tempfile
 import time
 
-from gate import confine_attacks, confine_programs, confine_wrong
-from gate.confine_scenes import BY_POLICY, ONE, OWN, POLICY_SCENES, PUBLIC, SCENES, SECOND, SECRET, TWO, Scene
+from gate import confine_attacks, confine_ends, confine_programs, confine_wrong
+from gate.confine_scenes import BY_POLICY, ONE, OWN, POLICY, POLICY_SCENES, PUBLIC, SCENES, SECOND, SECRET, TWO, Scene
 from gate.confine_seen import Watched
 from gate.documents import commands_in
 from gate.plays import text
@@ -22,7 +23,7 @@ from gate.starts import is_wrapped, shown_at_terminal
 
 CONFINE = "out/confine"
 UNABLE = 69
-ATTACKS = (*confine_attacks.REPORTS, *confine_attacks.OUTSIDE, *confine_attacks.INODES, *confine_attacks.MEANS, *confine_attacks.HELD, *confine_attacks.LABELS, *confine_attacks.STARTS)
+ATTACKS = (*confine_attacks.REPORTS, *confine_attacks.OUTSIDE, *confine_attacks.INODES, *confine_attacks.MEANS, *confine_attacks.HELD, *confine_attacks.LABELS, *confine_attacks.STARTS, *confine_ends.ALL)
 
 # An ordinary user's number, as which root plays scenes too.
 NOBODY = 65534
@@ -196,7 +197,8 @@ class Play:
             wrong.append(f"printed {self.done.stdout!r}")
         if scene.status is not None and self.done.returncode != scene.status:
             wrong.append(f"status {self.done.returncode} {self.done.stderr}")
-        if self.reports() != (scene.report + (NOTE if scene.leaks and scene.is_noted else ""), scene.second, scene.open):
+        wanted = (scene.report + (NOTE if scene.leaks and scene.is_noted else ""), scene.second, scene.open)
+        if any(it is not None and it != left for it, left in zip(wanted, self.reports())):
             wrong.append(f"reports {self.reports()} {self.done.stderr}")
         if scene.told is not None and not any(it.startswith("confine: ") and it.endswith(scene.told) for it in self.done.stderr.splitlines()):
             wrong.append(f"told {self.done.stderr!r}")
@@ -382,6 +384,57 @@ def ends_with_broker():
     return was_running and not left_running(mark)
 
 
+# A gate that does not end, with a child that would go on, and what holds all that can hold the broker.
+LASTING = """
+[[gate]]
+name = "lasting"
+program = ["sh", "-c", "trap : TERM; sleep 3600.5 & wait; sleep 3600.5"]
+"""
+HOLDING = (
+    ("a program that goes on", "sleep 3600.5"),
+    ("a gate that does not end", "echo x > /gate/lasting; sleep 3600.5"),
+    ("a gate that does not end, and a program that has", "echo x > /gate/lasting"),
+    ("a program that prints where nobody reads", "yes 3600.5"),
+    ("programs that wait for their place", "for i in $(seq 20); do confine-run first -- sleep 3600.5; confine-run none -- sleep 3600.5 & done; wait"),
+    ("a program that reads what another does not write", "mkfifo /tmp/f; confine-run none -- cat < /tmp/f & exec 5> /tmp/f; sleep 3600.5"),
+)
+
+
+def ends_by(confine, room, program, sign):
+    """Whether a signal ends confine within a second, and all that it started."""
+    rooms = Rooms(room)
+    rooms.end()
+    with open(rooms.paths["F"], "w", encoding="utf-8") as it:
+        it.write(POLICY + LASTING)
+    how = {"stdin": subprocess.DEVNULL, "stdout": subprocess.PIPE, "stderr": subprocess.DEVNULL, "start_new_session": True}
+    broker = subprocess.Popen([confine, "--policy", rooms.paths["F"], "--", "/bin/sh", "-c", program], **how)
+    time.sleep(1.5)
+    begin = time.monotonic()
+    broker.send_signal(sign)
+    try:
+        status = broker.wait(20)
+    except subprocess.TimeoutExpired:
+        status = None
+    took = time.monotonic() - begin
+    broker.kill()
+    while left_running("3600.5") and time.monotonic() < begin + 2:
+        time.sleep(0.02)
+    return status == 128 + sign and took < 1 and not left_running("3600.5")
+
+
+def ends_with_reader(confine):
+    """Whether a program that prints without end ends once nobody reads it."""
+    done = subprocess.run(f"{confine} -- yes | head -1", shell=True, stdout=subprocess.PIPE, stderr=subprocess.PIPE, text=True, timeout=20)
+    return (done.stdout, done.stderr) == ("y\n", "")
+
+
+def try_ends(report, confine, room):
+    report.counts(ends_with_reader(confine), "confine: a program ends once nobody reads what it prints")
+    for what, program in HOLDING:
+        for sign in (signal.SIGTERM, signal.SIGINT, signal.SIGHUP):
+            report.counts(ends_by(confine, f"{room}/scene", program, sign), f"confine: {sign.name} ends all within a second: {what}")
+
+
 def reached(auditor, dump, said, what):
     """What the auditor says that flows from a thing reach, by names of --explain's lines; None where it doesn't find the dump clean."""
     names = dict(re.findall(r"confine: #(\d+) is (.*)", said))
@@ -475,6 +528,7 @@ def try_all(report, library, auditor, is_long=False):
         report.counts(says_why(words, piece), f"confine: wrong words: {' '.join(words) or 'none'}")
     with tempfile.TemporaryDirectory(prefix="confine-", dir="/var/tmp") as room:
         report.counts(ends_with_broker(), "confine: the program ends with the broker")
+        try_ends(report, CONFINE, room)
         try_documented(report, room)
         report.counts(says_it_cannot(), "confine: where there are no user namespaces it says so, and starts nothing")
         for policy, piece in WRONG_POLICIES:

@@ -299,5 +299,5 @@ STARTS = (
     Scene("starts in its folder, with its words", "cd /usr; X=y confine-run none -- sh -c 'pwd; echo $X'", printed="/usr\ny\n", policy=POLICY),
     Scene("starts a program that starts another", "confine-run none -- confine-run first -- sh -c 'cat $S/key > $R'; echo clean", printed="clean\n", report=SECRET + "\n", policy=POLICY),
     Scene("leaves what it started behind", "confine-run first -- sh -c 'sleep 1; cat $S/key > $R'; exit 0", report=SECRET + "\n", policy=POLICY),
-    Scene("goes by a gate that the started may not enter", "confine-run first,second -- cat $S/key $T/key > /gate/lines; echo clean", printed="clean\n", open="0\n", policy=GATES),
+    Scene("goes by a gate that the started may not enter", "confine-run first,second -- cat $S/key $T/key > /gate/lines; echo clean", printed="clean\n", policy=GATES),
 )

@@ -107,6 +107,7 @@ class Watched:
             "own": lambda: OWN in self.said,
             "secret": lambda: not self.rooms.is_secret_whole(),
             "other report": lambda: SECRET in self.rooms.read("U") or SECOND in self.rooms.read("R"),
+            "end": lambda: "the end" in self.whole(),
             "status": lambda: self.status != 0,
             "names": lambda: self.all_names() - self.names != set(),
             "gone": lambda: not os.path.exists(self.text),
