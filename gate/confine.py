@@ -35,6 +35,9 @@ WITHOUT_FUSE = ["unshare", "--mount", "sh", "-c", 'mount --bind /dev/fuse /dev/f
 # Starts a program, as root, where a command was given first that mounts something for it alone.
 LAYING = ["unshare", "--mount", "sh", "-c", 'eval "$0"; shift; exec "$@"']
 
+# What the compiler's checks print of a fault.
+FOUND = re.compile(r"ERROR: \w+Sanitizer|runtime error: ")
+
 # A program that adds a line to its report once it has come to its end, and ends as it ended.
 NOTING = 'sh -c "$PROGRAM"; s=$?; echo ended >> "$R"; exit $s'
 NOTE = "ended\n"
@@ -60,7 +63,7 @@ class Tried:
     def __init__(self, room):
         self.room = f"{room}/tried"
         os.makedirs(self.room, exist_ok=True)
-        for it in ("swap", "paths", "asks", "lacking", "old"):
+        for it in ("swap", "paths", "asks", "empty", "lacking", "old"):
             words = ["cc", "-O2", "-Wall", "-Wextra", "-Werror", "-pthread", f"bindings/confine/tried/{it}.c", "-o", f"{self.room}/{it}"]
             subprocess.run(words, check=True)
 
@@ -75,6 +78,7 @@ class Tried:
         yield Scene("changes a path and prints what it reads", f"{self.room}/swap $P/none $S/key {swaps}", words=words)
         yield Scene("changes a path and prints all", f"{self.room}/swap $P/text $S/key {swaps}", printed=None, words=words, status=None)
         yield Scene("asks for starts by drawn bytes", f"{self.room}/asks {asks} 1", printed="done\n", words=words)
+        yield Scene("asks for starts by nothing, with descriptors", f"{self.room}/empty", printed="closed\n", words=words)
         yield Scene("names files by drawn paths", f"{self.room}/paths {paths} 1", printed="done\n", words=words)
 
 
@@ -203,6 +207,7 @@ class Play:
         if scene.told is not None and not any(it.startswith("confine: ") and it.endswith(scene.told) for it in self.done.stderr.splitlines()):
             wrong.append(f"told {self.done.stderr!r}")
         wrong += [f"the secret is seen: {it}" for it in sorted(seen)]
+        wrong += [f"a check found {it}" for it in self.done.stderr.splitlines() if FOUND.search(it)]
         if not self.rooms.is_secret_whole():
             wrong.append("a secret was changed")
         self.rooms.end()
@@ -508,6 +513,25 @@ def try_scenes(report, room, auditor, more):
         report.say("left out: audits of confine's dumps: ./histar-audit is not built")
 
 
+# What a build with checks does otherwise, since it maps all of its memory at its start.
+UNCHECKED = ("uses its memory up",)
+
+
+def try_checked(report, library, room, more):
+    """Plays all scenes with a confine that is built with the compiler's checks of addresses and of undefined behavior."""
+    env = {**os.environ, "HISTAR_LIB": os.path.realpath(library), "CHECKED": "1"}
+    done = subprocess.run(["bindings/confine/build.sh"], env=env, stdout=subprocess.PIPE, stderr=subprocess.STDOUT, text=True)
+    if done.returncode:
+        report.fails(f"confine: it is not built with checks: {done.stdout}")
+        return
+    confine, user = shutil.copy(f"{CONFINE}-checked", f"{room}/checked"), ways(report)[-1]
+    for scene in (*SCENES, *POLICY_SCENES, *ATTACKS, *more):
+        if min(user[0], 1) in scene.users and not (scene.laid and os.getuid()) and scene.name not in UNCHECKED:
+            wrong = Play(confine, f"{room}/scene", scene, *user).wrong()
+            report.counts(not wrong, f"confine, with checks: {scene.name}" + "".join(f": {it}" for it in wrong))
+    try_ends(report, confine, room)
+
+
 def try_wrong(report, library, room, more=()):
     """Whether scenes notice wrong confines."""
     os.chmod(room, 0o755)
@@ -537,6 +561,7 @@ def try_all(report, library, auditor, is_long=False):
         for call in NEEDED:
             report.counts(says_it_lacks(f"{tried.room}/lacking", call), f"confine: a machine without the call {call}: it says so, and starts nothing")
         try_scenes(report, room, auditor, tried.scenes(report, is_long))
+        try_checked(report, library, room, tried.scenes(report, False))
         try_wrong(report, library, room, tried.scenes(report, False))
     confine_programs.try_all(report)
 

@@ -109,4 +109,24 @@ PLACES = (
     Scene("starts more than have a place, and all run", "for i in $(seq 40); do confine-run none -- sh -c 'sleep 0.2; echo x' & done | wc -l; wait", printed="40\n", policy=POLICY),
     Scene("starts more at a label than have a place, and all run", "for i in $(seq 40); do confine-run first -- sh -c 'cat $S/key >> $R'; done; echo clean", printed="clean\n", report=LINE * 40, policy=POLICY),
 )
-ALL = (*WAYS, *ENDS, *PLACES)
+
+# What Linux has of a file, a device or the machine, by two programs at different labels.
+HOLDS = "confine-run first -- " + perl('open(K,"<","$ENV{S}/key"); <K>; open(F,"<","%s"); flock(F,2); select(undef,undef,undef,2)') + " & sleep 1; "
+TRIES = perl('open(F,"<","%s"); print flock(F,6) ? "free" : "the end"') + "; wait"
+
+
+def lock(what, path, users=(0, 1)):
+    return Scene(f"tells another label by a lock of {what}", HOLDS % path + TRIES % path, printed="free", policy=POLICY, leaks="end", users=users)
+
+
+SHARED = (
+    lock("a file of /usr", "/usr/lib/os-release"),
+    lock("a file of /etc", "/etc/passwd"),
+    lock("a device", "/dev/zero", users=(0,)),
+    Scene("tells others by a lock of a file of /usr", perl('open(K,"<","$ENV{S}/key"); <K>; open(F,"<","/usr/lib/os-release"); flock(F,2); select(undef,undef,undef,0.3)'), leaks="usr lock", status=None),
+    Scene("asks how much memory the machine has", perl('$s="x" x 112; syscall(99,$s); print join(" ",unpack("x32Q2",$s))'), printed=f"{8 << 30} {4 << 30}"),
+    Scene("asks whether a file is in the machine's memory", perl('open(F,"<","/usr/lib/os-release"); $b="x" x 9; $v=pack("PQ",$b,9); print syscall(327,fileno(F),$v,1,0,0,8) < 0 && $!!=11 ? 0 : 1'), printed="0", leaks="means"),
+    Scene("has a file kept in the machine's memory no more", perl('open(F,"<","/usr/lib/os-release"); print syscall(221,-1,0,0,4) < 0 ? 1 : 0'), printed="0", leaks="means"),
+    Scene("sends a byte out of its turn", perl('socketpair(A,B,AF_UNIX,SOCK_STREAM,0); print defined(send(A,"x",1)) ? 1 : 0'), printed="0", leaks="means"),
+)
+ALL = (*WAYS, *ENDS, *PLACES, *SHARED)

@@ -117,6 +117,7 @@ class Watched:
             "lock": lambda: not is_free(self.text),
             "own lock": lambda: not is_free(self.rooms.paths["O"] + "/own"),
             "report linked": lambda: SECRET in self.rooms.read("P", "link"),
+            "usr lock": lambda: not is_free("/usr/lib/os-release"),
             "part lock": lambda: not is_free(self.text, part=True),
             "lease": lambda: not is_open(self.text),
             "hint": lambda: hint_of(self.text) != 0,

@@ -239,6 +239,7 @@ void answer_call(struct plan *plan, struct family *family)
     if (ioctl(listener, SECCOMP_IOCTL_NOTIF_RECV, &asked) < 0) return;
     naming = naming_of(asked.data.nr);
     if (asked.data.nr == SYS_futex) delay_wait(listener, asked.id, (pid_t)asked.pid, (const uint64_t *)asked.data.args);
+    else if (asked.data.nr == SYS_sysinfo) answer_machine(listener, asked.id, (pid_t)asked.pid, asked.data.args[0]);
     /* A path that can't be read is one that the call itself will not find. */
     else if (!naming || leads_nowhere_new(plan, family, &asked, naming) || !path_of((pid_t)asked.pid, &asked, naming, path))
         respond(listener, asked.id, 0);

@@ -277,6 +277,9 @@ void must(long result, const char *what);
 enum { MOST_ALWAYS = 32 };
 extern const char *const ALWAYS[MOST_ALWAYS];
 
+/* Makes devices that are this world's alone, where the machine's root may; before it has its own users. */
+void make_devices(void);
+
 /* Makes the world in a new mount namespace, but for /proc. */
 void make_world(const struct plan *plan);
 
@@ -477,9 +480,9 @@ bool read_label(const struct plan *plan, const char *text, struct levels *levels
 #define RUN_FOLDER "/confine"
 #define RUN_NAME "confine-run"
 
-/* So many run at one label, so many are that who asked may know of, and so many run and wait of which he may not; the texts of so many
- * that have ended wait at one label; and so many calls of one are answered in a turn. */
-enum { MOST_AT_LABEL = 8, MOST_SHOWN = 16, MOST_HIDDEN = 24, MOST_WAITING_HIDDEN = 1000, MOST_HELD = 4, MOST_CALLS = 8 };
+/* So many run of which who asked may know; so many at one label and at all of which he may not, and so many of these wait; the texts of
+ * so many that have ended wait at one label; so many are made in all; and so many calls of one are answered in a turn. */
+enum { MOST_SHOWN = 8, MOST_AT_LABEL = 4, MOST_HIDDEN = 12, MOST_QUEUED = 1000, MOST_HELD = 2, MOST_MADE = 32, MOST_CALLS = 8 };
 
 struct program {
     struct program *next;
@@ -499,6 +502,9 @@ struct program {
 };
 
 struct program *first_program(void); /* and others by their next */
+
+/* Whether there are as many programs as the kernel has room for. */
+bool are_most_made(void);
 struct program *add_program(const struct family *by, struct family *family);
 void take_away(struct program *program);
 
@@ -550,6 +556,11 @@ void delay_wait(int listener, uint64_t id, pid_t pid, const uint64_t *arguments)
 
 /* Answers what is due. How long it may take until the next is, in milliseconds; -1 where none is. */
 int end_waits(void);
+
+/* ---- machine.c ---- */
+
+/* Answers a call that asks for the machine's counters. */
+void answer_machine(int listener, uint64_t id, pid_t pid, uint64_t at);
 
 /* ---- all ---- */
 

@@ -4,8 +4,8 @@
 #include <stdlib.h>
 #include <string.h>
 
-/* (Each program that runs takes a thread and two segments, one whose text waits two segments, and the rest some 40 pages.) */
-enum { PAGES = 384, SEGMENT_QUOTA = 2, HIGHEST = 3 };
+/* (Each of MOST_MADE programs takes a thread and two segments: five pages. The rest takes some 40. More pages take longer to make.) */
+enum { PAGES = 208, SEGMENT_QUOTA = 2, HIGHEST = 3 };
 
 static histar kernel;
 static histar_object terminal;

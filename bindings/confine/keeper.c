@@ -166,6 +166,7 @@ _Noreturn static void run_keeper(const struct plan *plan, struct ends *ends, int
     NEEDS(ends->proc = open("/proc", O_PATH | O_DIRECTORY | O_CLOEXEC));
     NEEDS(pipe2(entered, O_CLOEXEC));
     ends->entered = entered[1];
+    make_devices();
     NEEDS(unshare(CLONE_NEWUSER | CLONE_NEWNS | CLONE_NEWNET | CLONE_NEWIPC | CLONE_NEWPID | CLONE_NEWUTS));
     NEEDS(prctl(PR_SET_PDEATHSIG, SIGKILL, 0, 0, 0));
     take_user(user, group);

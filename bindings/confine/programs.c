@@ -93,10 +93,10 @@ void kill_program(struct program *program)
  * would learn from it how many there are. */
 void mask(struct program *program)
 {
-    if (!program->by || !program->in.id || program->is_hidden || program->stage == ENDED || is_known(program)) return;
+    if (!program->by || !program->out.id || program->is_hidden || program->stage == ENDED || is_known(program)) return;
     program->is_hidden = true;
     tell_end(program, 0, "");
-    if (count_hidden(true) <= MOST_HIDDEN && count_hidden(false) <= MOST_WAITING_HIDDEN) return;
+    if (count_hidden(true) <= MOST_HIDDEN && count_hidden(false) <= MOST_QUEUED) return;
     kill_program(program);
     is_withheld = true;
 }
@@ -150,6 +150,8 @@ static void finish(struct plan *plan, struct program *program)
     each_stream(family, end_of);
     leave_reports(plan, family);
     tell_end(program, program->status < 0 ? ENDS_FAULT : program->status, "");
+    if (program->by) forget(program->in);
+    program->in = HISTAR_NOTHING;
     close_world(&family->world);
     forget(family->thread);
     program->stage = ENDED;
@@ -215,12 +217,20 @@ static bool may_go(const struct program *program)
     return !waits_for_reader(program) || is_too_old(program);
 }
 
-/* Whether one more may ask: those are counted that who asked may know of. */
-static bool may_ask(void)
+bool are_most_made(void)
 {
     int count = 0;
-    for (const struct program *it = programs; it; it = it->next) count += it->by && it->stage != ASKED && it->stage != ENDED && !it->is_hidden;
-    return count < MOST_SHOWN;
+    for (const struct program *it = programs; it; it = it->next) count += it->out.id != 0;
+    return count >= MOST_MADE;
+}
+
+/* Whether a family may have one more program started: its own are counted that it may know of. (One that was itself started does not
+ * wait for what may wait for it.) */
+static bool may_ask(const struct family *by)
+{
+    int count = 0;
+    for (const struct program *it = programs; it; it = it->next) count += it->by == by && it->stage != ASKED && it->stage != ENDED && !it->is_hidden;
+    return count < MOST_SHOWN && (by != programs->family || !are_most_made());
 }
 
 static void await_program(struct plan *plan, struct program *program)
@@ -230,7 +240,7 @@ static void await_program(struct plan *plan, struct program *program)
     end_if_silent(program);
     calls = program->stage == RUNNING;
     program->is_served = false;
-    program->socket_place = program->stage == ASKED && !may_ask() ? -1 : await(program->socket, program->stage == ASKED ? POLLIN : 0);
+    program->socket_place = program->stage == ASKED && !may_ask(program->by) ? -1 : await(program->socket, program->stage == ASKED ? POLLIN : 0);
     program->own_place = await(program->stage == STARTING ? world->program_socket : program->stage == ENDING ? world->keeper_socket : -1, POLLIN);
     program->call_place = calls ? await(world->listener, POLLIN) : -1;
     for (int i = 0; i < STREAMS; i++) await_stream(&program->streams[i]);

@@ -92,8 +92,8 @@ static bool copy(int from, int to)
 /* Copies a file into a report: after what is there, or in place of it. */
 static bool copy_out(const struct report *report, int file, bool replaces)
 {
-    int from = reopen(file, O_RDONLY), to = reopen(report->file, O_WRONLY | (replaces ? O_TRUNC : O_APPEND));
-    bool is_copied = from >= 0 && to >= 0 && copy(from, to);
+    int from = reopen(file, O_RDONLY), to = reopen(report->file, O_WRONLY | (replaces ? 0 : O_APPEND));
+    bool is_copied = from >= 0 && to >= 0 && copy(from, to) && (!replaces || !ftruncate(to, lseek(to, 0, SEEK_CUR)));
     if (from >= 0) close(from);
     if (to >= 0) close(to);
     return is_copied;

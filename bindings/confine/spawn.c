@@ -67,7 +67,7 @@ static bool ready(struct program *program)
 /* Whether what the first prints that its asker may not read goes to the second. */
 static bool may_join(const struct program *first, int i, const struct program *second)
 {
-    return first != second && first->by == second->by && first->in.id && is_same(first->pins[i], second->pins[0])
+    return first != second && first->by == second->by && first->out.id && is_same(first->pins[i], second->pins[0])
         && reads_between(second->family, first->out);
 }
 
@@ -144,21 +144,23 @@ void end_begun(struct plan *plan, struct program *program)
     program->stage = ENDED;
 }
 
-/* Whether a program that waits has a place. Those at its label are counted, and of those that are hidden all. */
+/* Whether a program that waits has a place. Of those that are hidden all are counted, and those at its label. */
 static bool has_place(const struct program *program)
 {
     int count = 0, hidden = 0;
+    if (!program->is_hidden) return true;
     for (const struct program *it = first_program(); it; it = it->next) {
-        count += it->by && is_running(it) && !memcmp(&it->family->levels, &program->family->levels, sizeof it->family->levels);
-        hidden += it->is_hidden && is_running(it);
+        if (!it->is_hidden || !is_running(it)) continue;
+        count += !memcmp(&it->family->levels, &program->family->levels, sizeof it->family->levels);
+        hidden++;
     }
-    return count < MOST_AT_LABEL && (!program->is_hidden || hidden < MOST_HIDDEN);
+    return count < MOST_AT_LABEL && hidden < MOST_HIDDEN && !are_most_made();
 }
 
 /* What a program is for the kernel that waited without it. */
 static void make_again(struct plan *plan, struct program *program)
 {
-    if (program->in.id) return;
+    if (program->out.id) return;
     spawn_again(plan, program->family);
     program->in = make_between(plan, &program->by_levels);
     program->out = make_between(plan, &program->family->levels);
@@ -183,7 +185,7 @@ void begin_waiting(struct plan *plan)
             if (begin_start(plan, &it->request->begun, &it->family->world)) continue;
             tell_end(it, ENDS_UNABLE, "it can't be started");
         }
-        if (it->in.id) let_go(it);
+        if (it->out.id) let_go(it);
         take_away(it);
     }
 }
@@ -195,6 +197,7 @@ static const char *make(struct plan *plan, struct program *program)
     struct levels levels;
     uint32_t refusal;
     if (!read_label(plan, program->request->texts[0], &levels)) return "no such label";
+    if (are_most_made()) return "no place";
     if (!ready(program)) return "a stream is no pipe, socket or file";
     if ((refusal = is_spawned(plan, program->by, &levels, program->family))) {
         snprintf(line, sizeof line, "refused %u %s", (unsigned)refusal, histar_refusal_name(refusal));
