@@ -246,15 +246,14 @@ void answer_call(struct plan *plan, struct family *family)
     else answer_naming(plan, family, &asked, naming, path);
 }
 
-/* The program waits for an answer on the processor that gives it, where the machine's kernel can do that (Linux 6.6). */
-static void wake_at_once(int listener)
+void wake_at_once(int listener, bool does)
 {
     enum { SET_FLAGS = SECCOMP_IOW(4, uint64_t), SYNC_WAKE_UP = 1 };
-    ioctl(listener, SET_FLAGS, SYNC_WAKE_UP);
+    ioctl(listener, SET_FLAGS, does ? SYNC_WAKE_UP : 0);
 }
 
 bool begin_answers(const struct plan *plan, struct family *family)
 {
-    wake_at_once(family->world.listener);
+    wake_at_once(family->world.listener, true);
     return note_reports(plan, family);
 }

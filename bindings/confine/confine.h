@@ -392,6 +392,9 @@ bool begin_answers(const struct plan *plan, struct family *family);
 /* Puts a secret into a family's world, once its label has risen to it. An errno, 0 where it is there. */
 int open_secret(struct plan *plan, struct family *family, int secret);
 
+/* Whether the program waits for an answer on the processor that gives it, where the machine's kernel can do that (Linux 6.6). */
+void wake_at_once(int listener, bool does);
+
 /* Answers the next call of a family. */
 void answer_call(struct plan *plan, struct family *family);
 
@@ -441,6 +444,9 @@ int unblocked(int file, int access);
 /* Awaits what a stream waits for, and takes what is there and gives what can be written. Whether it took something. */
 void await_stream(struct stream *stream);
 bool serve_stream(struct stream *stream);
+
+/* Gives what can be given now. */
+void give(struct stream *stream);
 
 /* Takes all that its writer has written so far. */
 void take_before(struct stream *stream);
@@ -498,6 +504,7 @@ struct program {
     histar_object in, out;        /* what is between the asker and what was started */
     struct levels by_levels;      /* the asker's label as he asked */
     bool is_hidden, is_killed, is_served; /* in this round */
+    bool is_slow;                 /* it has no processor of the broker's */
     int status;
 };
 

@@ -114,6 +114,11 @@ static void take_if_writer(struct stream *stream, const struct family *family)
     if (stream->writer == family) take_before(stream);
 }
 
+static void give_if_reader(struct stream *stream, const struct family *family)
+{
+    if (stream->reader == family) give(stream);
+}
+
 static void settle_one(struct stream *stream, const struct family *family)
 {
     (void)family;
@@ -122,6 +127,7 @@ static void settle_one(struct stream *stream, const struct family *family)
 
 void before_rise(struct plan *plan, const struct family *family)
 {
+    each_stream(family, give_if_reader);
     each_stream(family, take_if_writer);
     take_ways_before(plan, family);
 }
@@ -267,7 +273,7 @@ static void answer_calls(struct plan *plan, struct program *program)
     answer_doors(plan, program->family);
     if (came(program->call_place) & POLLIN) {
         answer_call(plan, program->family);
-        for (int i = 1; i < MOST_CALLS && came_now(world->listener, POLLIN) & POLLIN; i++) answer_call(plan, program->family);
+        for (int i = 1; program->family->prints && i < MOST_CALLS && came_now(world->listener, POLLIN) & POLLIN; i++) answer_call(plan, program->family);
     } else if (came(program->call_place)) {
         close(world->listener);
         world->listener = -1;

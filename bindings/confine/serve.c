@@ -1,8 +1,8 @@
 /* The broker's rounds: in each it waits for what its programs, gates and streams have for it, and serves them.
  *
  * Once a program is at another label than the one that confine was started for, rounds begin at fixed times, one after each turn. First
- * come all programs whose output may be shown, then the others, of which none has more than what is left of the turn: so how much those
- * have the broker do is not seen in how long it takes to answer the first. */
+ * come all programs whose output may be shown, then, in one turn of some, the others, of which none has more than what is left of the
+ * turn: so how much those have the broker do is hardly seen in how long it takes to answer the first. */
 #define _GNU_SOURCE
 #include "confine.h"
 #include <errno.h>
@@ -19,8 +19,13 @@
  * until it is given up. In nanoseconds. */
 static const int64_t TURN = 500000, HIDDEN_TURN = 250000, GRACE = 600000000, LAST_GRACE = 850000000;
 
+enum { HIDDEN_EVERY = 4 };
+
 static bool has_turns;
 static int64_t next_turn;
+static unsigned turns; /* so many were there */
+
+static bool is_turn_of_hidden(void) { return !has_turns || turns % HIDDEN_EVERY == 0; }
 
 static int64_t now(void)
 {
@@ -35,6 +40,8 @@ static void look_for_turns(void)
     for (const struct program *it = first_program(); it && !has_turns; it = it->next)
         if (it->stage != ASKED && memcmp(&it->family->levels, &first_program()->family->levels, sizeof it->family->levels)) has_turns = true;
     if (has_turns && !next_turn) prctl(PR_SET_TIMERSLACK, 1, 0, 0, 0), next_turn = now();
+    for (struct program *it = first_program(); it && has_turns; it = it->next)
+        if (it->stage == RUNNING && !it->family->prints && !it->is_slow) it->is_slow = true, wake_at_once(it->family->world.listener, false);
 }
 
 static void wait_for_turn(void)
@@ -75,13 +82,14 @@ static int begin(struct plan *plan, int ends, int *end_place)
     *end_place = await(ends, POLLIN);
     await_programs(plan);
     await_gates();
-    return end_waits();
+    return is_turn_of_hidden() ? end_waits() : 2;
 }
 
 static void serve_round(struct plan *plan)
 {
     serve_all_of(plan, true, 0);
-    serve_all_of(plan, false, has_turns ? next_turn + HIDDEN_TURN : 0);
+    if (is_turn_of_hidden()) serve_all_of(plan, false, has_turns ? next_turn + HIDDEN_TURN : 0);
+    turns++;
     serve_gates(plan);
     put_away_programs();
     begin_waiting(plan);

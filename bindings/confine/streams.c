@@ -177,6 +177,7 @@ void settle(struct stream *stream)
     if (!may_read(stream)) hold(stream);
     else if (!may_write(stream)) {
         stream->is_cut = true;
+        give(stream);
         end_if_empty(stream);
     }
 }
