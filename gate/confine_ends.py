@@ -38,7 +38,7 @@ WAYS = (
     Scene(
         "makes a pipe until it has a gate's number",
         "exec 5> /gate/lines; n=$(stat -Lc %i /dev/fd/5); "
-        + perl('use POSIX; $n=shift; for (1..300000) { mkfifo("/tmp/f",0600); last if (stat("/tmp/f"))[1] >= $n; unlink "/tmp/f" }')
+        + perl('use POSIX; $n=shift; for (1..20000) { mkfifo("/tmp/f",0600); last if (stat("/tmp/f"))[1] >= $n; unlink "/tmp/f" }')
         + " $n; (timeout 3 cat /tmp/f) & confine-run first -- cat $S/key > /tmp/f; wait; echo clean",
         printed="clean\n",
         policy=GATES,
@@ -129,4 +129,16 @@ SHARED = (
     Scene("has a file kept in the machine's memory no more", perl('open(F,"<","/usr/lib/os-release"); print syscall(221,-1,0,0,4) < 0 ? 1 : 0'), printed="0", leaks="means"),
     Scene("sends a byte out of its turn", perl('socketpair(A,B,AF_UNIX,SOCK_STREAM,0); print defined(send(A,"x",1)) ? 1 : 0'), printed="0", leaks="means"),
 )
-ALL = (*WAYS, *ENDS, *PLACES, *SHARED)
+
+# What people run.
+PIPELINES = (
+    Scene("puts a program between others in a pipeline", "(echo header; confine-run none -- echo body; echo footer) | confine-run none -- cat", printed="header\nbody\nfooter\n", policy=POLICY),
+    Scene("puts two programs in a group", "(confine-run none -- echo a; confine-run none -- echo b) | cat", printed="a\nb\n", policy=POLICY),
+    Scene("keeps the errors of a program in a pipeline", "confine-run none -- sh -c 'echo e >&2; echo o' 2>&1 | confine-run none -- sort", printed="e\no\n", policy=POLICY),
+    Scene("keeps two programs of a group at a label", "(confine-run first -- cat $S/key; confine-run first -- cat $S/key) | confine-run first -- sh -c 'sleep 1; cat > $R'", report=LINE * 2, policy=POLICY),
+    Scene("prints in turn with what it has started", "for i in 1 2 3 4 5 6; do confine-run none -- printf $i; printf $i; done", printed="112233445566", policy=POLICY),
+    Scene("starts programs within programs", "confine-run none -- " * 10 + "echo deep", printed="deep\n", policy=POLICY),
+    Scene("has what a program prints lost", "confine-run none -- echo x > /dev/full; echo $?", printed="70\n", policy=POLICY),
+    Scene("ends a program by a signal to its client", "timeout 1 confine-run none -- sleep 30; echo $?", printed="124\n", policy=POLICY),
+)
+ALL = (*WAYS, *ENDS, *PLACES, *SHARED, *PIPELINES)

@@ -432,6 +432,7 @@ struct stream {
     bool is_cut;                           /* its writer may not write it any more */
     bool is_stuck;                         /* its writer's end may not be seen */
     bool is_dropped;                       /* some of it was */
+    bool is_lost;                          /* what it leads to could not be written */
 };
 
 /* A stream from nowhere to nowhere; and back to that. */
@@ -488,7 +489,7 @@ bool read_label(const struct plan *plan, const char *text, struct levels *levels
 
 /* So many run of which who asked may know; so many at one label and at all of which he may not, and so many of these wait; the texts of
  * so many that have ended wait at one label; so many are made in all; and so many calls of one are answered in a turn. */
-enum { MOST_SHOWN = 8, MOST_AT_LABEL = 4, MOST_HIDDEN = 12, MOST_QUEUED = 1000, MOST_HELD = 2, MOST_MADE = 32, MOST_CALLS = 8 };
+enum { MOST_SHOWN = 16, MOST_AT_LABEL = 8, MOST_HIDDEN = 24, MOST_QUEUED = 1000, MOST_HELD = 2, MOST_MADE = 64, MOST_CALLS = 8 };
 
 struct program {
     struct program *next;
@@ -517,6 +518,9 @@ void take_away(struct program *program);
 
 /* Whether a program is being started, runs, or is about to have ended. */
 bool is_running(const struct program *program);
+
+/* The status of a program that has ended: a fault where what it printed could not be written. */
+int status_of(const struct program *program);
 
 /* Tells who asked of an end, with a status and a line, or none. */
 void tell_end(struct program *program, int status, const char *line);

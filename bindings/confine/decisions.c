@@ -5,7 +5,7 @@
 #include <string.h>
 
 /* (Each of MOST_MADE programs takes a thread and two segments: five pages. The rest takes some 40. More pages take longer to make.) */
-enum { PAGES = 208, SEGMENT_QUOTA = 2, HIGHEST = 3 };
+enum { PAGES = 384, SEGMENT_QUOTA = 2, HIGHEST = 3 };
 
 static histar kernel;
 static histar_object terminal;

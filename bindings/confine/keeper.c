@@ -93,7 +93,7 @@ static void close_all(const int *files, int count)
     for (int i = 0; i < count; i++) close(files[i]);
 }
 
-static int status_of(int status)
+static int ended_with(int status)
 {
     return WIFEXITED(status) ? WEXITSTATUS(status) : 128 + WTERMSIG(status);
 }
@@ -115,14 +115,14 @@ _Noreturn static void run_first(const struct ends *ends)
     close(ends->program);
     while ((ended = wait(&status)) != program)
         if (ended < 0 && errno != EINTR) _exit(ENDS_FAULT);
-    _exit(status_of(status));
+    _exit(ended_with(status));
 }
 
 /* Ends as the first process of the world did. */
 _Noreturn static void exit_as(pid_t first)
 {
     int status;
-    _exit(waitpid(first, &status, 0) == first ? status_of(status) : ENDS_FAULT);
+    _exit(waitpid(first, &status, 0) == first ? ended_with(status) : ENDS_FAULT);
 }
 
 /* Puts secrets into the world as the broker names them, until the program has ended, and tells its status. A name below
@@ -140,7 +140,7 @@ _Noreturn static void keep(const struct plan *plan, pid_t first, int socket)
         if (write(socket, &answer, sizeof answer) != sizeof answer) break;
     }
     if (waitpid(first, &status, 0) != first) _exit(ENDS_FAULT);
-    answer = status_of(status);
+    answer = ended_with(status);
     if (write(socket, &answer, sizeof answer) < 0) {}
     _exit(answer);
 }

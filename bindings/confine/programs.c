@@ -148,14 +148,13 @@ static void end_of(struct stream *stream, const struct family *family)
     stream->reader = NULL;
 }
 
-/* A program has ended: its reports are kept, and who may know it is told its status. */
+/* A program has ended: its reports are kept. */
 static void finish(struct plan *plan, struct program *program)
 {
     struct family *family = program->family;
     mask(program);
     each_stream(family, end_of);
     leave_reports(plan, family);
-    tell_end(program, program->status < 0 ? ENDS_FAULT : program->status, "");
     if (program->by) forget(program->in);
     program->in = HISTAR_NOTHING;
     close_world(&family->world);
@@ -295,10 +294,17 @@ void serve_program(struct plan *plan, struct program *program)
     serve_ending(plan, program);
 }
 
+int status_of(const struct program *program)
+{
+    bool is_lost = program->streams[1].is_lost || program->streams[2].is_lost;
+    return program->status < 0 || (is_lost && !program->status) ? ENDS_FAULT : program->status;
+}
+
 void put_away_programs(void)
 {
     for (struct program *it = programs, *next; it; it = next) {
         next = it->next;
+        if (is_done(it)) tell_end(it, status_of(it), "");
         if (may_go(it)) take_away(it);
     }
 }
@@ -323,6 +329,7 @@ void end_programs(struct plan *plan)
 {
     for (struct program *it = programs; it; it = it->next)
         if (it->stage == RUNNING || it->stage == ENDING) finish(plan, it);
+    for (struct program *it = programs; it; it = it->next) tell_end(it, status_of(it), "");
     while (programs) take_away(programs);
     if (is_withheld) fputs("confine: some of what a program printed that was started at a label is withheld\n", stderr);
 }

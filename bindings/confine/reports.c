@@ -89,11 +89,19 @@ static bool copy(int from, int to)
     return !count;
 }
 
+/* Whether a report still has its name: what is written to one that has none is lost. */
+static bool is_there(const struct report *report)
+{
+    struct stat found;
+    errno = ENOENT;
+    return !fstat(report->file, &found) && found.st_nlink;
+}
+
 /* Copies a file into a report: after what is there, or in place of it. */
 static bool copy_out(const struct report *report, int file, bool replaces)
 {
     int from = reopen(file, O_RDONLY), to = reopen(report->file, O_WRONLY | (replaces ? 0 : O_APPEND));
-    bool is_copied = from >= 0 && to >= 0 && copy(from, to) && (!replaces || !ftruncate(to, lseek(to, 0, SEEK_CUR)));
+    bool is_copied = from >= 0 && to >= 0 && is_there(report) && copy(from, to) && (!replaces || !ftruncate(to, lseek(to, 0, SEEK_CUR)));
     if (from >= 0) close(from);
     if (to >= 0) close(to);
     return is_copied;

@@ -163,7 +163,7 @@ static int serve_all(struct plan *plan)
 
 int serve(struct plan *plan, struct program *program)
 {
-    int ended_by = serve_all(plan), status = program->status;
+    int ended_by = serve_all(plan), status = status_of(program);
     bool prints = program->family->prints, are_laid;
     end_programs(plan);
     are_laid = lay_reports(plan);
@@ -171,5 +171,5 @@ int serve(struct plan *plan, struct program *program)
     if (ended_by) return 128 + ended_by;
     if (!prints) return 0;
     if (!are_laid) return ENDS_FAULT;
-    return status < 0 ? ENDS_FAULT : status;
+    return status;
 }

@@ -134,7 +134,8 @@ void give(struct stream *stream)
     count = put(stream->to, stream->text + stream->begin, stream->count - stream->begin);
     if (count > 0) stream->begin += (size_t)count;
     else if (errno != EAGAIN && errno != EINTR) {
-        stream->is_dropped = true;
+        stream->is_lost = errno != EPIPE && errno != ECONNRESET;
+        stream->is_dropped = stream->is_dropped || !may_know(stream);
         end_reader(stream);
     }
     end_if_empty(stream);
