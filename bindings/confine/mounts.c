@@ -68,32 +68,43 @@ const char *mounted_in(const char *folder)
     return NULL;
 }
 
-/* Where in its file system a path lies. */
-static bool place_of(const struct mounted *mount, const char *path, char *place)
+/* Where a path lies, which is looked up once. */
+struct place {
+    const char *path; /* (of the plan, or of what all find: it stays where it is) */
+    const struct mounted *mount; /* NULL where that can't be told */
+    char *below;                 /* in its file system */
+};
+
+static const struct place *place_of(const char *path)
 {
-    const char *below = path + (strcmp(mount->point, "/") ? strlen(mount->point) : 0);
-    const char *root = strcmp(mount->root, "/") ? mount->root : "";
-    int length = snprintf(place, PATH_MAX, "%s%s", root, below);
-    if (!length) strcpy(place, "/");
-    return length < PATH_MAX;
+    static struct place places[MOST_SECRETS + MOST_REPORTS + MOST_OPEN + MOST_ALWAYS];
+    static size_t known;
+    struct place *place = places;
+    while (place < places + known && place->path != path) place++;
+    if (place < places + known) return place;
+    if (known == sizeof places / sizeof *places) refuse("too many paths");
+    *place = (struct place){path, mount_of(path), NULL};
+    known++;
+    if (place->mount && asprintf(&place->below, "%s%s", strcmp(place->mount->root, "/") ? place->mount->root : "",
+                                 path + (strcmp(place->mount->point, "/") ? strlen(place->mount->point) : 0)) < 0)
+        unable("a list of places");
+    if (place->below && !*place->below) place->below = (char *)(uintptr_t)"/";
+    return place;
 }
 
 bool is_placed_below(const char *path, const char *folder)
 {
-    const struct mounted *one = mount_of(path), *other = mount_of(folder);
-    char place[PATH_MAX], whole[PATH_MAX];
-    if (!one || !other || strcmp(one->device, other->device)) return false;
-    return place_of(one, path, place) && place_of(other, folder, whole) && is_below(place, whole);
+    const struct place *one = place_of(path), *other = place_of(folder);
+    return one->mount && other->mount && !strcmp(one->mount->device, other->mount->device) && is_below(one->below, other->below);
 }
 
 bool is_mounted_below(const char *path, const char *folder)
 {
-    const struct mounted *mount = mount_of(path);
-    char place[PATH_MAX];
-    if (!mount || !place_of(mount, path, place)) return false;
+    const struct place *place = place_of(path);
+    if (!place->mount) return false;
     for (int i = 0; i < count; i++)
-        if (is_below(all[i].point, folder) && strcmp(all[i].point, folder) && !strcmp(all[i].device, mount->device)
-            && (is_below(all[i].root, place) || is_below(place, all[i].root)))
+        if (is_below(all[i].point, folder) && strcmp(all[i].point, folder) && !strcmp(all[i].device, place->mount->device)
+            && (is_below(all[i].root, place->below) || is_below(place->below, all[i].root)))
             return true;
     return false;
 }
