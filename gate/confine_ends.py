@@ -75,11 +75,7 @@ ENDS = (
         policy=POLICY,
         leaks="end",
     ),
-    Scene(
-        "tells by ending one that it has started",
-        "confine-run none -- sh -c '" + SINCE + "timeout 4 sleep 9; " + told_below(4, "> $Q") + "' & p=$!; sleep 0.5; " + READ + "sleep 1; kill $p; sleep 0.2; wait",
-        policy=POLICY,
-    ),
+    Scene("tells by ending one that it has started", "confine-run none -- sh -c 'sleep 2; echo late > $Q' & p=$!; sleep 0.5; " + READ + "kill $p; wait", policy=POLICY, open="late\n", status=None),
     Scene("ends what writes to a program that has ended", "yes | confine-run none -- true; echo done", printed="done\n", policy=POLICY),
     Scene("ends a program that writes where nobody reads", "confine-run none -- yes | head -1", printed="y\n", policy=POLICY),
     Scene("ends a program that writes to one that has ended", "confine-run none -- yes | confine-run none -- head -1", printed="y\n", policy=POLICY),

@@ -332,6 +332,10 @@ int receive_descriptor(int socket);
 /* A descriptor that neither reads nor writes, but keeps what another leads to, so that its number is given to nothing else; -1. */
 int pin(int file);
 
+/* The broker may have as many as its user may, since it has some for each program; and what it starts as many as before. */
+void raise_files(void);
+void lower_files(void);
+
 /* Whether two lead to the same. */
 bool is_same(int one, int other);
 

@@ -3,6 +3,7 @@
 #include "confine.h"
 #include <fcntl.h>
 #include <string.h>
+#include <sys/resource.h>
 #include <sys/socket.h>
 #include <sys/stat.h>
 #include <sys/uio.h>
@@ -47,4 +48,19 @@ bool is_same(int one, int other)
 {
     struct stat first, second;
     return one >= 0 && other >= 0 && !fstat(one, &first) && !fstat(other, &second) && first.st_dev == second.st_dev && first.st_ino == second.st_ino;
+}
+
+static struct rlimit before;
+
+void raise_files(void)
+{
+    struct rlimit most;
+    if (getrlimit(RLIMIT_NOFILE, &before)) return;
+    most = (struct rlimit){before.rlim_max, before.rlim_max};
+    setrlimit(RLIMIT_NOFILE, &most);
+}
+
+void lower_files(void)
+{
+    if (before.rlim_max) setrlimit(RLIMIT_NOFILE, &before);
 }

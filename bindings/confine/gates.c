@@ -55,6 +55,7 @@ _Noreturn static void become_gate(const struct plan *plan, const struct gate *ga
     sigemptyset(&none);
     for (int i = 0; i < gate->word_count; i++) words[i] = (char *)gate->words[i];
     prctl(PR_SET_PDEATHSIG, SIGKILL, 0, 0, 0);
+    lower_files();
     if (!print_as(plan, gate) || dup2(input, 0) < 0 || close_range(3, ~0U, 0)) _exit(ENDS_FAULT);
     signal(SIGPIPE, SIG_DFL);
     sigprocmask(SIG_SETMASK, &none, NULL);

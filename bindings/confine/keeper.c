@@ -162,6 +162,7 @@ _Noreturn static void run_keeper(const struct plan *plan, struct ends *ends, int
     int entered[2];
     char byte;
     pid_t first;
+    lower_files();
     setsid();
     NEEDS(ends->proc = open("/proc", O_PATH | O_DIRECTORY | O_CLOEXEC));
     NEEDS(pipe2(entered, O_CLOEXEC));
@@ -296,6 +297,7 @@ int end_start(struct world *world)
     if (receive_world(world)) world->listener = receive_descriptor(world->program_socket);
     is_there = receive_number(world->keeper_socket, &status);
     if (is_there && world->listener >= 0 && write(world->program_socket, "g", 1) == 1) return close_one(&world->program_socket), 0;
+    close_one(&world->program_socket);
     status = status_of_keeper(world);
     close_one(&world->input);
     close_one(&world->printed[0]);

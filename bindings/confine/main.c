@@ -6,7 +6,6 @@
 #include <signal.h>
 #include <stdlib.h>
 #include <string.h>
-#include <sys/resource.h>
 #include <unistd.h>
 
 ENDS void fail(int status, const char *what)
@@ -33,13 +32,6 @@ static const char *begins_in(const struct plan *plan, char *here)
     for (int i = 0; i < plan->open_count; i++)
         if (is_below(here, plan->open[i])) return here;
     return NULL;
-}
-
-/* Each program has some descriptors of the broker's. */
-static void raise_files(void)
-{
-    struct rlimit files;
-    if (!getrlimit(RLIMIT_NOFILE, &files)) files.rlim_cur = files.rlim_max, setrlimit(RLIMIT_NOFILE, &files);
 }
 
 static int own_end(int file, int access)
