@@ -8,12 +8,13 @@ import itertools
 import os
 import re
 import shutil
+import signal
 import subprocess
 import tempfile
 import time
 
-from gate import confine_attacks, confine_programs, confine_wrong
-from gate.confine_scenes import BY_POLICY, ONE, OWN, POLICY_SCENES, PUBLIC, SCENES, SECOND, SECRET, TWO, Scene
+from gate import confine_attacks, confine_ends, confine_programs, confine_wrong
+from gate.confine_scenes import BY_POLICY, ONE, OWN, POLICY, POLICY_SCENES, PUBLIC, SCENES, SECOND, SECRET, TWO, Scene
 from gate.confine_seen import Watched
 from gate.documents import commands_in
 from gate.plays import text
@@ -22,7 +23,7 @@ from gate.starts import is_wrapped, shown_at_terminal
 
 CONFINE = "out/confine"
 UNABLE = 69
-ATTACKS = (*confine_attacks.REPORTS, *confine_attacks.INODES, *confine_attacks.MEANS, *confine_attacks.HELD, *confine_attacks.LABELS, *confine_attacks.STARTS)
+ATTACKS = (*confine_attacks.REPORTS, *confine_attacks.OUTSIDE, *confine_attacks.INODES, *confine_attacks.MEANS, *confine_attacks.HELD, *confine_attacks.LABELS, *confine_attacks.STARTS, *confine_ends.ALL)
 
 # An ordinary user's number, as which root plays scenes too.
 NOBODY = 65534
@@ -30,6 +31,12 @@ AS_NOBODY = ["setpriv", "--reuid", str(NOBODY), "--regid", str(NOBODY), "--clear
 
 # Starts a program, as root, where /dev/fuse can't be opened: the broker is then asked of each call that names a file.
 WITHOUT_FUSE = ["unshare", "--mount", "sh", "-c", 'mount --bind /dev/fuse /dev/fuse && mount -o remount,bind,nodev /dev/fuse && exec "$@"', "sh"]
+
+# Starts a program, as root, where a command was given first that mounts something for it alone.
+LAYING = ["unshare", "--mount", "sh", "-c", 'eval "$0"; shift; exec "$@"']
+
+# What the compiler's checks print of a fault.
+FOUND = re.compile(r"ERROR: \w+Sanitizer|runtime error: ")
 
 # A program that adds a line to its report once it has come to its end, and ends as it ended.
 NOTING = 'sh -c "$PROGRAM"; s=$?; echo ended >> "$R"; exit $s'
@@ -56,7 +63,7 @@ class Tried:
     def __init__(self, room):
         self.room = f"{room}/tried"
         os.makedirs(self.room, exist_ok=True)
-        for it in ("swap", "paths", "asks", "lacking", "old"):
+        for it in ("swap", "paths", "asks", "empty", "lacking", "old"):
             words = ["cc", "-O2", "-Wall", "-Wextra", "-Werror", "-pthread", f"bindings/confine/tried/{it}.c", "-o", f"{self.room}/{it}"]
             subprocess.run(words, check=True)
 
@@ -71,6 +78,7 @@ class Tried:
         yield Scene("changes a path and prints what it reads", f"{self.room}/swap $P/none $S/key {swaps}", words=words)
         yield Scene("changes a path and prints all", f"{self.room}/swap $P/text $S/key {swaps}", printed=None, words=words, status=None)
         yield Scene("asks for starts by drawn bytes", f"{self.room}/asks {asks} 1", printed="done\n", words=words)
+        yield Scene("asks for starts by nothing, with descriptors", f"{self.room}/empty", printed="closed\n", words=words)
         yield Scene("names files by drawn paths", f"{self.room}/paths {paths} 1", printed="done\n", words=words)
 
 
@@ -152,8 +160,9 @@ class Play:
     def __init__(self, confine, room, scene, user, by=()):
         self.confine, self.room, self.scene, self.user, self.by = confine, room, scene, user, by
         self.rooms = Rooms(room, user)
-        with open(self.rooms.paths["F"], "w", encoding="utf-8") as it:
-            it.write(scene.policy)
+        for name, it in (("F", scene.policy), ("R", scene.old)):
+            with open(self.rooms.paths[name], "w", encoding="utf-8") as file:
+                file.write(it)
         self.watched = Watched(self.rooms)
 
     def program(self):
@@ -163,14 +172,16 @@ class Play:
 
     def words(self):
         words = self.rooms.words(self.scene.words or (BY_POLICY if self.scene.policy else ONE))
-        return [self.confine, *words, "--audit", f"{self.room}/dump", "--", *self.program()] if self.confine else self.program()
+        passed = [it for name in (*self.rooms.paths, "PROGRAM") for it in ("--env", name)]
+        return [self.confine, *words, *passed, "--audit", f"{self.room}/dump", "--", *self.program()] if self.confine else self.program()
 
     def run(self, watched):
         as_user = AS_NOBODY if self.user and not os.getuid() else []
         path = os.environ["PATH"] if self.confine else f"{os.path.dirname(self.room)}/bare:{os.environ['PATH']}"
-        env = {**os.environ, **self.rooms.paths, "PROGRAM": self.scene.program or "", "PATH": path}
+        env = {**os.environ, **self.rooms.paths, "PROGRAM": self.scene.program or "", "KEPT": OWN, "PATH": path}
+        laid = LAYING + [self.scene.laid, "sh"] if self.scene.laid else []
         how = {"stdout": subprocess.PIPE, "stderr": subprocess.PIPE, "text": True, "errors": "replace", "timeout": 300}
-        self.done = subprocess.run([*self.by, *as_user, *self.words()], input=self.scene.stdin, env=env, cwd=self.room, **how)
+        self.done = subprocess.run([*self.by, *laid, *as_user, *self.words()], input=self.scene.stdin, env=env, cwd=self.room, **how)
         watched.said, watched.status = self.done.stdout + self.done.stderr, self.done.returncode
 
     def seen(self):
@@ -190,11 +201,13 @@ class Play:
             wrong.append(f"printed {self.done.stdout!r}")
         if scene.status is not None and self.done.returncode != scene.status:
             wrong.append(f"status {self.done.returncode} {self.done.stderr}")
-        if self.reports() != (scene.report + (NOTE if scene.leaks and scene.is_noted else ""), scene.second, scene.open):
+        wanted = (scene.report + (NOTE if scene.leaks and scene.is_noted else ""), scene.second, scene.open)
+        if any(it is not None and it != left for it, left in zip(wanted, self.reports())):
             wrong.append(f"reports {self.reports()} {self.done.stderr}")
         if scene.told is not None and not any(it.startswith("confine: ") and it.endswith(scene.told) for it in self.done.stderr.splitlines()):
             wrong.append(f"told {self.done.stderr!r}")
         wrong += [f"the secret is seen: {it}" for it in sorted(seen)]
+        wrong += [f"a check found {it}" for it in self.done.stderr.splitlines() if FOUND.search(it)]
         if not self.rooms.is_secret_whole():
             wrong.append("a secret was changed")
         self.rooms.end()
@@ -234,7 +247,18 @@ WRONG_WORDS = (
 
 # Policies that are none, and a piece of the line that says so.
 WRONG_POLICIES = (
-    ("categories = [", "policy:1: "),
+    ("categories = [", "policy:1: a bracket is not closed"),
+    ("x = [}", "policy:1: brackets don't close each other"),
+    ("x = ]", "policy:1: brackets don't close each other"),
+    ("x = " + "[" * 9, "policy:1: brackets nest too deep"),
+    ("x" + ".x" * 20_000 + " = 1", "policy:1: a key has too many dots"),
+    ("x" + ".x" * 50_000 + " = 1", "policy: a policy has at most 65536 bytes"),
+    ("#" * 65_537, "policy: a policy has at most 65536 bytes"),
+    ('x = "', "policy:1: a text is not closed"),
+    ("x = 3\ny = \"\"\"a\"\"\"", "policy:2: a text stands on one line"),
+    ("x = \\", "policy:1: "),
+    ('categories = ["first"]\nread = [{folder = "secret", label = {first = true}}]', "policy:2: a level is from 0 to 3"),
+    ('categories = ["first"]\nread = [{folder = "secret", label = {first = 3.0}}]', "policy:2: a level is from 0 to 3"),
     ("colours = []", "no word of a policy: colours"),
     ("categories = 3", "a list is wanted"),
     ('categories = ["First"]', "a name has up to 31"),
@@ -365,6 +389,57 @@ def ends_with_broker():
     return was_running and not left_running(mark)
 
 
+# A gate that does not end, with a child that would go on, and what holds all that can hold the broker.
+LASTING = """
+[[gate]]
+name = "lasting"
+program = ["sh", "-c", "trap : TERM; sleep 3600.5 & wait; sleep 3600.5"]
+"""
+HOLDING = (
+    ("a program that goes on", "sleep 3600.5"),
+    ("a gate that does not end", "echo x > /gate/lasting; sleep 3600.5"),
+    ("a gate that does not end, and a program that has", "echo x > /gate/lasting"),
+    ("a program that prints where nobody reads", "yes 3600.5"),
+    ("programs that wait for their place", "for i in $(seq 20); do confine-run first -- sleep 3600.5; confine-run none -- sleep 3600.5 & done; wait"),
+    ("a program that reads what another does not write", "mkfifo /tmp/f; confine-run none -- cat < /tmp/f & exec 5> /tmp/f; sleep 3600.5"),
+)
+
+
+def ends_by(confine, room, program, sign):
+    """Whether a signal ends confine within a second, and all that it started."""
+    rooms = Rooms(room)
+    rooms.end()
+    with open(rooms.paths["F"], "w", encoding="utf-8") as it:
+        it.write(POLICY + LASTING)
+    how = {"stdin": subprocess.DEVNULL, "stdout": subprocess.PIPE, "stderr": subprocess.DEVNULL, "start_new_session": True}
+    broker = subprocess.Popen([confine, "--policy", rooms.paths["F"], "--", "/bin/sh", "-c", program], **how)
+    time.sleep(1.5)
+    begin = time.monotonic()
+    broker.send_signal(sign)
+    try:
+        status = broker.wait(20)
+    except subprocess.TimeoutExpired:
+        status = None
+    took = time.monotonic() - begin
+    broker.kill()
+    while left_running("3600.5") and time.monotonic() < begin + 2:
+        time.sleep(0.02)
+    return status == 128 + sign and took < 1 and not left_running("3600.5")
+
+
+def ends_with_reader(confine):
+    """Whether a program that prints without end ends once nobody reads it."""
+    done = subprocess.run(f"{confine} -- yes | head -1", shell=True, stdout=subprocess.PIPE, stderr=subprocess.PIPE, text=True, timeout=20)
+    return (done.stdout, done.stderr) == ("y\n", "")
+
+
+def try_ends(report, confine, room):
+    report.counts(ends_with_reader(confine), "confine: a program ends once nobody reads what it prints")
+    for what, program in HOLDING:
+        for sign in (signal.SIGTERM, signal.SIGINT, signal.SIGHUP):
+            report.counts(ends_by(confine, f"{room}/scene", program, sign), f"confine: {sign.name} ends all within a second: {what}")
+
+
 def reached(auditor, dump, said, what):
     """What the auditor says that flows from a thing reach, by names of --explain's lines; None where it doesn't find the dump clean."""
     names = dict(re.findall(r"confine: #(\d+) is (.*)", said))
@@ -379,7 +454,8 @@ def tells_flows(auditor, room):
     """Whether the dump of a run tells that its secret can have reached its report and not what is printed."""
     rooms = Rooms(room)
     rooms.end()
-    words = [CONFINE, "--explain", "--audit", f"{room}/dump", *rooms.words(TWO), "--", "/bin/sh", "-c", "cat $S/key > $R; echo x > $U; echo done"]
+    passed = [it for name in rooms.paths for it in ("--env", name)]
+    words = [CONFINE, "--explain", "--audit", f"{room}/dump", *rooms.words(TWO), *passed, "--", "/bin/sh", "-c", "cat $S/key > $R; echo x > $U; echo done"]
     done = subprocess.run(words, env={**os.environ, **rooms.paths}, stdout=subprocess.PIPE, stderr=subprocess.PIPE, text=True)
     report, secret = rooms.paths["R"], rooms.paths["S"]
     return reached(auditor, f"{room}/dump", done.stderr, secret) == [report]
@@ -428,13 +504,32 @@ def try_scenes(report, room, auditor, more):
     scenes, unclean = (*SCENES, *POLICY_SCENES, *ATTACKS, *more), []
     for user, by in ways(report):
         for scene in scenes:
-            if min(user, 1) in scene.users and not try_scene(report, confine, f"{room}/scene", scene, user, auditor, by):
+            if min(user, 1) in scene.users and not (scene.laid and os.getuid()) and not try_scene(report, confine, f"{room}/scene", scene, user, auditor, by):
                 unclean.append(scene.name)
     if auditor:
         report.counts(not unclean, f"confine: the dumps of all scenes audit clean{unclean or ''}")
         report.counts(tells_flows(auditor, f"{room}/scene"), "confine: the dump tells what a secret can have reached")
     else:
         report.say("left out: audits of confine's dumps: ./histar-audit is not built")
+
+
+# What a build with checks does otherwise, since it maps all of its memory at its start.
+UNCHECKED = ("uses its memory up",)
+
+
+def try_checked(report, library, room, more):
+    """Plays all scenes with a confine that is built with the compiler's checks of addresses and of undefined behavior."""
+    env = {**os.environ, "HISTAR_LIB": os.path.realpath(library), "CHECKED": "1"}
+    done = subprocess.run(["bindings/confine/build.sh"], env=env, stdout=subprocess.PIPE, stderr=subprocess.STDOUT, text=True)
+    if done.returncode:
+        report.fails(f"confine: it is not built with checks: {done.stdout}")
+        return
+    confine, user = shutil.copy(f"{CONFINE}-checked", f"{room}/checked"), ways(report)[-1]
+    for scene in (*SCENES, *POLICY_SCENES, *ATTACKS, *more):
+        if min(user[0], 1) in scene.users and not (scene.laid and os.getuid()) and scene.name not in UNCHECKED:
+            wrong = Play(confine, f"{room}/scene", scene, *user).wrong()
+            report.counts(not wrong, f"confine, with checks: {scene.name}" + "".join(f": {it}" for it in wrong))
+    try_ends(report, confine, room)
 
 
 def try_wrong(report, library, room, more=()):
@@ -457,6 +552,7 @@ def try_all(report, library, auditor, is_long=False):
         report.counts(says_why(words, piece), f"confine: wrong words: {' '.join(words) or 'none'}")
     with tempfile.TemporaryDirectory(prefix="confine-", dir="/var/tmp") as room:
         report.counts(ends_with_broker(), "confine: the program ends with the broker")
+        try_ends(report, CONFINE, room)
         try_documented(report, room)
         report.counts(says_it_cannot(), "confine: where there are no user namespaces it says so, and starts nothing")
         for policy, piece in WRONG_POLICIES:
@@ -465,6 +561,7 @@ def try_all(report, library, auditor, is_long=False):
         for call in NEEDED:
             report.counts(says_it_lacks(f"{tried.room}/lacking", call), f"confine: a machine without the call {call}: it says so, and starts nothing")
         try_scenes(report, room, auditor, tried.scenes(report, is_long))
+        try_checked(report, library, room, tried.scenes(report, False))
         try_wrong(report, library, room, tried.scenes(report, False))
     confine_programs.try_all(report)
 

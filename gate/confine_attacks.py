@@ -1,6 +1,6 @@
 """More scenes of confine: what Linux lets a process do to a file, a descriptor or itself that another sees, and what a program asks
 the machine for. Each is also played without confine, where it has to be seen."""
-from gate.confine_scenes import BY_POLICY, GATES, ONE, OPEN, POLICY, READ, SECOND, SECRET, TWO, Scene
+from gate.confine_scenes import GATES, ONE, OPEN, POLICY, READ, SECOND, SECRET, TWO, Scene
 
 
 def perl(text):
@@ -38,6 +38,23 @@ REPORTS = (
     Scene("writes a report of no secret by a link", READ + "echo $k > $Q", words=OPEN, leaks="text", status=None),
     Scene("links a report of no secret to its own file", READ + "rm -f $Q; echo $k > /tmp/own$$; ln -s /tmp/own$$ $Q; cat $Q > /dev/null", words=OPEN, leaks="open", status=None),
     Scene("makes a report of no secret writable and writes it", READ + "chmod 600 $Q; ln -s $Q /tmp/l$$; echo $k > /tmp/l$$", words=OPEN, leaks="text", status=None),
+)
+
+# What stands outside, before the program begins.
+TEXT_OUT = READ + "echo $k > $R; sleep 0.3; : > $R"
+OUTSIDE = (
+    Scene("empties its report while it runs", READ + ": > $R; sleep 0.3; echo new > $R", report="new\n", old="old\n", leaks="report emptied"),
+    Scene("adds to what its report had", READ + "echo $k >> $R", report=f"old\n{SECRET}\n", old="old\n"),
+    Scene("leaves no plain file in its report's place", READ + "rm -f $R; mkfifo $R", status=0),
+    Scene("leaves no plain file in its report's place, and has read nothing", "rm -f $R; mkfifo $R", status=70),
+    Scene("prints what its user has in the environment", "echo ${KEPT:-none}", printed="none\n", leaks="own"),
+    Scene("has a home of its own", "echo $HOME $TMPDIR; cd; pwd", printed="/tmp /tmp\n/tmp\n"),
+    Scene("writes a report that has a name in what is public", TEXT_OUT, status=2, laid='ln -f "$R" "$P/link"', is_noted=False, leaks="report linked"),
+    Scene("writes a report that all may read", READ + "echo $k > $R; sleep 0.3", report=SECRET + "\n", laid='chmod 644 "$R"', leaks="report readable"),
+    Scene("reads a secret that is mounted in what is public", "cat $P/in/key", status=2, laid='mkdir "$P/in"; mount --bind "$S" "$P/in"', is_noted=False, leaks="text"),
+    Scene("reads a secret that is mounted as what is public", "cat $P/key", status=2, laid='mount --bind "$S" "$P"', is_noted=False, leaks="text"),
+    Scene("tells by a lock in what is mounted in what is public", knows(opens("<$ENV{P}/in/own") + "flock(F,2)"), status=2, laid='mkdir "$P/in"; mount --bind "$O" "$P/in"', is_noted=False, leaks="own lock"),
+    Scene("reads a secret that is mounted in /usr", "cat /usr/share/man/key", status=2, laid='mount --bind "$S" /usr/share/man', is_noted=False, leaks="text"),
 )
 
 # By a public file: what is kept with the file, and not in it.
@@ -186,6 +203,10 @@ MEANS = tuple(
         ("a note of a named queue", (244, -1, 0), (0, 1)),
         ("the settings of a named queue", (245, -1, 0, 0), (0, 1)),
         ("an old watch of folders", (253,), (0, 1)),
+        ("a watch of folders", (294, 0), (0, 1)),
+        ("a folder more to watch", (254, -1, "$p=q(/usr)", 1), (0, 1)),
+        ("a folder less to watch", (255, -1, 1), (0, 1)),
+        ("what of its files is in memory", (27, 1, 0, 0), (0, 1)),
         ("old signals by a descriptor", (282, -1, "$m=pack(q(Q),0)", 8), (0, 1)),
         ("a connection of another, with flags", (288, -1, 0, 0, 0), (0, 1)),
         ("many messages", (299, -1, "$m=pack(q(x64))", 1, 0, 0), (0, 1)),
@@ -282,5 +303,5 @@ STARTS = (
     Scene("starts in its folder, with its words", "cd /usr; X=y confine-run none -- sh -c 'pwd; echo $X'", printed="/usr\ny\n", policy=POLICY),
     Scene("starts a program that starts another", "confine-run none -- confine-run first -- sh -c 'cat $S/key > $R'; echo clean", printed="clean\n", report=SECRET + "\n", policy=POLICY),
     Scene("leaves what it started behind", "confine-run first -- sh -c 'sleep 1; cat $S/key > $R'; exit 0", report=SECRET + "\n", policy=POLICY),
-    Scene("goes by a gate that the started may not enter", "confine-run first,second -- cat $S/key $T/key > /gate/lines; echo clean", printed="clean\n", open="0\n", policy=GATES),
+    Scene("goes by a gate that the started may not enter", "confine-run first,second -- cat $S/key $T/key > /gate/lines; echo clean", printed="clean\n", policy=GATES),
 )

@@ -77,6 +77,9 @@ ROWS = (
     ("curl", "curl", "cat $S/text; curl -s -m 3 http://127.0.0.1:1/ -o $R; test -s $R", b"html"),
 )
 
+# What the programs are told of the environment.
+PASSED = ("S", "R", "GIT_CONFIG_GLOBAL", "RUSTUP_HOME", "CARGO_HOME", "JAVA_HOME")
+
 # What can't work, and why.
 WITHOUT = {"tmux": "it has no terminal and no socket with a name", "strace, gdb": "no process traces another", "curl": "there is no network"}
 
@@ -103,7 +106,8 @@ def tried(row, room):
     os.makedirs(f"{room}/out")
     tools = [it for it in (f"{os.path.expanduser('~')}/.rustup", f"{os.path.expanduser('~')}/.cargo") if os.path.isdir(it)]
     env.update({"RUSTUP_HOME": tools[0], "CARGO_HOME": tools[1]} if len(tools) == 2 else {})
-    words = [os.path.abspath(CONFINE), "--secret", env["S"], "--report", env["R"], *(it for tool in tools for it in ("--public", tool)), "--", "sh", "-c", command]
+    passed = [it for name in PASSED for it in ("--env", name)]
+    words = [os.path.abspath(CONFINE), *passed, "--secret", env["S"], "--report", env["R"], *(it for tool in tools for it in ("--public", tool)), "--", "sh", "-c", command]
     done = subprocess.run(words, env=env, cwd=room, stdin=subprocess.DEVNULL, stdout=subprocess.PIPE, stderr=subprocess.PIPE, timeout=120)
     with open(env["R"], "rb") as it:
         return it.read(), done

@@ -21,7 +21,7 @@ STATUSES = {
 EXAMPLES = {
     "histar": (("Play a script and keep what happened", "histar run {documents}/examples/first.histar --dump first.dump"), ("Ask the kernel call by call", "histar try"), ("See why the call of a line was refused", "histar show why first.dump 12"), ("Write a page that steps through a run", "histar show page first.dump --out first.html")),
     "histar-audit": (("Check each answer of a run", "histar-audit first.dump"), ("See what object 4 can have reached outside of category 1", "histar-audit first.dump --from 4 --category 1")),
-    "confine": (("Search your documents by a program that can't send them on", "confine --secret ~/Documents --report found -- sh -c 'grep -rl EICAR ~/Documents > found'"),),
+    "confine": (("Search your documents by a program that can't send them on", "confine --secret Documents --report found -- sh -c 'grep -rl EICAR Documents > found'"),),
 }
 
 

@@ -11,9 +11,14 @@ bool is_below(const char *path, const char *folder)
     return !strncmp(path, folder, length) && (!path[length] || path[length] == '/' || folder[length - 1] == '/');
 }
 
-static void keep_two_apart(const char *one, const char *other)
+static void keep_names_apart(const char *one, const char *other)
 {
     if (is_below(one, other) || is_below(other, one)) refuse("%s and %s: one lies in the other", one, other);
+}
+
+static void keep_two_apart(const char *one, const char *other)
+{
+    if (is_placed_below(one, other) || is_placed_below(other, one)) refuse("%s and %s: one lies in the other", one, other);
 }
 
 /* The real path of one of those things that each program finds; "" where it isn't there. */
@@ -30,8 +35,19 @@ static const char *real_of(size_t i)
 static void keep_from_all(const char *secret)
 {
     for (size_t i = 0; ALWAYS[i]; i++)
-        if (*real_of(i)) keep_two_apart(secret, real_of(i)), keep_two_apart(secret, ALWAYS[i]);
-    keep_two_apart(secret, "/proc");
+        if (*real_of(i)) {
+            keep_two_apart(secret, real_of(i));
+            keep_names_apart(secret, ALWAYS[i]);
+            if (is_mounted_below(secret, real_of(i))) refuse("%s: it is mounted in %s too", secret, real_of(i));
+        }
+    keep_names_apart(secret, "/proc");
+}
+
+/* What is mounted in a folder can't be overlaid: a lock or a pipe there would lead outside, or to what another label has. */
+static void keep_whole(const char *folder)
+{
+    const char *mounted = mounted_in(folder);
+    if (mounted) refuse("%s: something is mounted in it, at %s", folder, mounted);
 }
 
 static bool are_equal(const struct levels *one, const struct levels *other) { return !memcmp(one, other, sizeof *one); }
@@ -41,12 +57,23 @@ static bool are_equal(const struct levels *one, const struct levels *other) { re
 static void keep_report_apart(const struct plan *plan, const struct report *report)
 {
     for (int i = 0; i < plan->secret_count; i++)
-        if (!are_equal(&report->levels, &plan->secrets[i].levels) && is_below(report->path, plan->secrets[i].path))
+        if (!are_equal(&report->levels, &plan->secrets[i].levels) && is_placed_below(report->path, plan->secrets[i].path))
             refuse("%s: it lies in %s, of which it is no report", report->path, plan->secrets[i].path);
     for (int i = 0; i < plan->open_count; i++)
-        if (is_below(report->path, plan->open[i])) refuse("%s: it lies in %s, which is public", report->path, plan->open[i]);
+        if (is_placed_below(report->path, plan->open[i])) refuse("%s: it lies in %s, which is public", report->path, plan->open[i]);
     for (size_t i = 0; ALWAYS[i]; i++)
-        if (*real_of(i) && is_below(report->path, real_of(i))) refuse("%s: it lies in %s, which is public", report->path, real_of(i));
+        if (*real_of(i) && is_placed_below(report->path, real_of(i))) refuse("%s: it lies in %s, which is public", report->path, real_of(i));
+}
+
+/* A report is reached by its own name alone, and is its user's alone. */
+static void keep_private(const struct report *report)
+{
+    char link[64];
+    struct stat found;
+    snprintf(link, sizeof link, "/proc/self/fd/%d", report->file);
+    if (fstat(report->file, &found)) fail(ENDS_FAULT, report->path);
+    if (found.st_nlink != 1) refuse("%s: it has another name, by which it may be read", report->path);
+    if ((found.st_mode & 07777) != 0600 && chmod(link, 0600)) refuse("%s: it is another's, so it can't be kept from others", report->path);
 }
 
 /* One file under two names has one label. */
@@ -66,7 +93,10 @@ void keep_apart(const struct plan *plan)
         for (int j = 0; j < i; j++) keep_two_apart(path, plan->secrets[j].path);
         for (int j = 0; j < plan->open_count; j++) keep_two_apart(path, plan->open[j]);
     }
+    for (int i = 0; i < plan->secret_count; i++) keep_whole(plan->secrets[i].path);
+    for (int i = 0; i < plan->open_count; i++) keep_whole(plan->open[i]);
     for (int i = 0; i < plan->report_count; i++) {
+        keep_private(&plan->reports[i]);
         keep_report_apart(plan, &plan->reports[i]);
         for (int j = 0; j < i; j++) keep_files_apart(&plan->reports[i], &plan->reports[j]);
     }

@@ -1,18 +1,14 @@
-/* The broker: it answers the program's calls that name a file, and relays what it prints. */
+/* The broker's answers to the program's calls that name a file. */
 #define _GNU_SOURCE
 #include "confine.h"
 #include <errno.h>
 #include <fcntl.h>
-#include <poll.h>
 #include <seccomp.h>
-#include <signal.h>
 #include <stdlib.h>
 #include <string.h>
 #include <sys/ioctl.h>
-#include <sys/signalfd.h>
 #include <sys/syscall.h>
 #include <sys/uio.h>
-#include <sys/wait.h>
 #include <linux/seccomp.h>
 #include <unistd.h>
 
@@ -104,7 +100,9 @@ int open_secret(struct plan *plan, struct family *family, int i)
 {
     int answer = EIO;
     if (family->is_open[i]) return 0;
+    before_rise(plan, family);
     if (!opens_secret(plan, family, i)) return EACCES;
+    after_rise(family);
     family->is_open[i] = true;
     if (write(family->world.keeper_socket, &i, sizeof i) != sizeof i) return EIO;
     if (read(family->world.keeper_socket, &answer, sizeof answer) != sizeof answer) return EIO;
@@ -127,17 +125,19 @@ static bool writes_to(const struct seccomp_notif *asked, const struct naming *na
  * secret is at the secret's level: the kernel lets nobody modify what he doesn't observe. */
 static int open_report(struct plan *plan, struct family *family, int i, const struct naming *naming, int flags)
 {
+    before_rise(plan, family);
     if (!holds_report(plan, family, i)) return EACCES;
+    after_rise(family);
     if (naming->kind != RENAMES) begin_report(plan, family, i, flags);
     return 0;
 }
 
-/* What is written to a gate's program, which is started; -1 with errno where it may not be. */
+/* What leads to a gate's program; -1 with errno where it may not be written to. */
 static int open_gate(struct plan *plan, struct family *family, int i, int flags)
 {
     errno = (flags & O_CREAT) && (flags & O_EXCL) ? EEXIST : EACCES;
     if (errno == EEXIST || (flags & O_ACCMODE) == O_RDWR || !enters_gate(plan, family, i)) return -1;
-    return start_gate(plan, i);
+    return open_way(plan, family, i);
 }
 
 static void respond(int listener, uint64_t id, int error)
@@ -239,90 +239,21 @@ void answer_call(struct plan *plan, struct family *family)
     if (ioctl(listener, SECCOMP_IOCTL_NOTIF_RECV, &asked) < 0) return;
     naming = naming_of(asked.data.nr);
     if (asked.data.nr == SYS_futex) delay_wait(listener, asked.id, (pid_t)asked.pid, (const uint64_t *)asked.data.args);
+    else if (asked.data.nr == SYS_sysinfo) answer_machine(listener, asked.id, (pid_t)asked.pid, asked.data.args[0]);
     /* A path that can't be read is one that the call itself will not find. */
     else if (!naming || leads_nowhere_new(plan, family, &asked, naming) || !path_of((pid_t)asked.pid, &asked, naming, path))
         respond(listener, asked.id, 0);
     else answer_naming(plan, family, &asked, naming, path);
 }
 
-/* The program waits for an answer on the processor that gives it, where the machine's kernel can do that (Linux 6.6). */
-static void wake_at_once(int listener)
+void wake_at_once(int listener, bool does)
 {
     enum { SET_FLAGS = SECCOMP_IOW(4, uint64_t), SYNC_WAKE_UP = 1 };
-    ioctl(listener, SET_FLAGS, SYNC_WAKE_UP);
+    ioctl(listener, SET_FLAGS, does ? SYNC_WAKE_UP : 0);
 }
 
-/* What tells that confine is asked to end. */
-static int ends_of(void)
+bool begin_answers(const struct plan *plan, struct family *family)
 {
-    sigset_t ends;
-    sigemptyset(&ends);
-    sigaddset(&ends, SIGINT);
-    sigaddset(&ends, SIGTERM);
-    sigaddset(&ends, SIGHUP);
-    sigprocmask(SIG_BLOCK, &ends, NULL);
-    return signalfd(-1, &ends, SFD_CLOEXEC);
-}
-
-/* What the program's own world waits for, first of all. */
-enum { PRINTED, ERRORS, CALLS, END, INPUT, INPUT_END, DOORS, OWN = DOORS + MOST_SECRETS };
-
-/* What the program printed is relayed before its next call is answered, so that all that came before a secret is shown. */
-static void serve_own(struct plan *plan, struct family *family, struct stream *input, struct pollfd *all)
-{
-    for (int i = PRINTED; i <= ERRORS; i++)
-        if (all[i].revents && !relay(all[i].fd, i + 1, family->prints)) close(all[i].fd), all[i].fd = -1;
-    if (all[INPUT].revents) take(input);
-    if (all[INPUT_END].revents) give(input);
-    if (all[PRINTED].revents || all[ERRORS].revents) return;
-    answer_doors(plan, family, all + DOORS);
-    if (all[CALLS].revents & POLLIN) answer_call(plan, family);
-    else if (all[CALLS].revents) all[CALLS].fd = -1;
-}
-
-/* Serves the program and what it started until all have ended. Gives the signal that ended it before, or 0. */
-static int serve_all(struct plan *plan, struct family *family)
-{
-    struct world *world = &family->world;
-    struct stream input = stream_of(world->input < 0 ? -1 : fcntl(0, F_DUPFD_CLOEXEC, 3), world->input);
-    struct signalfd_siginfo end = {0};
-    struct pollfd all[OWN + MOST_WAITS_OF_STARTS] = {
-        {world->printed[0], POLLIN, 0}, {world->printed[1], POLLIN, 0}, {world->listener, POLLIN, 0}, {ends_of(), POLLIN, 0}};
-    for (;;) {
-        int more = list_starts(plan, all + OWN), soon = end_waits();
-        if (all[PRINTED].fd < 0 && all[ERRORS].fd < 0 && all[CALLS].fd < 0 && are_starts_done()) return 0;
-        all[INPUT] = taken_from(&input);
-        all[INPUT_END] = given_to(&input);
-        list_doors(plan, world, all + DOORS);
-        if (poll(all, (nfds_t)(OWN + more), soon) < 0) {
-            if (errno == EINTR) continue;
-            return 0;
-        }
-        if (all[END].revents && read(all[END].fd, &end, sizeof end) == sizeof end) return (int)end.ssi_signo;
-        serve_own(plan, family, &input, all);
-        serve_starts(plan, all + OWN);
-    }
-}
-
-void begin_answers(const struct plan *plan, struct family *family)
-{
-    wake_at_once(family->world.listener);
-    note_reports(plan, family);
-}
-
-int serve(struct plan *plan, struct family *family)
-{
-    int ended_by, status;
-    bool are_copied;
-    begin_answers(plan, family);
-    ended_by = serve_all(plan, family);
-    status = end_world(&family->world, ended_by != 0);
-    end_starts(plan);
-    end_gates(plan);
-    are_copied = copy_reports(plan, family);
-    tell_refused(plan, family->prints);
-    if (ended_by) return 128 + ended_by;
-    if (!are_copied) return ENDS_FAULT;
-    if (!family->prints) return 0;
-    return status < 0 ? ENDS_FAULT : status;
+    wake_at_once(family->world.listener, true);
+    return note_reports(plan, family);
 }

@@ -1,6 +1,7 @@
 #!/bin/sh
 # Builds out/confine, over the library that ./lib has made (or over that in the folder HISTAR_LIB). It needs compilers for C and
-# C++, and the headers of libseccomp and toml++ (Debian's libseccomp-dev and libtomlplusplus-dev).
+# C++, and the headers of libseccomp and toml++ (Debian's libseccomp-dev and libtomlplusplus-dev). CHECKED=1 builds out/confine-checked,
+# with the compiler's checks of addresses and of undefined behavior.
 set -eu
 top=$(cd "$(dirname "$0")/../.." && pwd)
 . "$top/gate/answer.sh"
@@ -16,11 +17,18 @@ has "${CXX:-c++}" toml++/toml.h c++ || lacks "toml++/toml.h is missing: install 
 room=$(mktemp -d)
 trap 'rm -rf "$room"' EXIT
 mkdir -p "$top/out"
+made="$top/out/confine"
+checks=
+if [ -n "${CHECKED:-}" ]; then
+    made="$top/out/confine-checked"
+    checks='-fsanitize=address,undefined -fno-sanitize-recover=all -g'
+    "${CC:-cc}" -c "$top/bindings/confine/tried/checked.c" -o "$room/checked.o"
+fi
 strict='-std=c11 -O2 -fstack-protector-strong -Wall -Wextra -Wpedantic -Werror'
 "${CC:-cc}" $strict "$top/bindings/confine/filter/make.c" -lseccomp -o "$room/make"
 "$room/make" > "$room/filters.inc"
-"${CXX:-c++}" -std=c++17 -O2 -fstack-protector-strong -Wall -Wextra -Werror -I"$top/include" -c "$top/bindings/confine/policy.cpp" -o "$room/policy.o"
+"${CXX:-c++}" -std=c++17 $checks -O2 -fstack-protector-strong -Wall -Wextra -Werror -I"$top/include" -c "$top/bindings/confine/policy.cpp" -o "$room/policy.o"
 for file in "$top"/bindings/confine/*.c; do
-    "${CC:-cc}" $strict -I"$top/include" -I"$room" -c "$file" -o "$room/$(basename "$file").o"
+    "${CC:-cc}" $strict $checks -I"$top/include" -I"$room" -c "$file" -o "$room/$(basename "$file").o"
 done
-"${CXX:-c++}" -static-libstdc++ -static-libgcc "$room"/*.o -L"$library" -lhistar -o "$top/out/confine"
+"${CXX:-c++}" $checks -static-libstdc++ -static-libgcc "$room"/*.o -L"$library" -lhistar -o "$made"

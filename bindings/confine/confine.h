@@ -1,8 +1,8 @@
 /* confine: a program runs over secrets that it may read and can't send on.
  *
  * Three processes take part.
- * - The broker (main.c, broker.c) has the label kernel. It is asked before the program looks into a secret (doors.c) or opens a
- *   file to write it, relays what the program prints, and copies its reports out once it has ended.
+ * - The broker (main.c, serve.c, broker.c) has the label kernel. It is asked before the program looks into a secret (doors.c) or opens
+ *   a file to write it, relays what the program prints (streams.c), and copies its reports out once all has ended.
  * - The keeper (keeper.c, world.c) makes the program's world, a mount namespace, and puts a secret into it when the broker
  *   says so.
  * - The program runs in that world under Landlock and limits (walls.c) and a filter of system calls (filter.c), with all
@@ -31,7 +31,7 @@ extern "C" {
 #define ENDS _Noreturn
 #endif
 
-enum { MOST_CATEGORIES = 8, MOST_SECRETS = 8, MOST_REPORTS = 8, MOST_OPEN = 32, MOST_GATES = 8, MOST_WORDS = 16, MOST_RUNS = 16 };
+enum { MOST_CATEGORIES = 8, MOST_SECRETS = 8, MOST_REPORTS = 8, MOST_OPEN = 32, MOST_GATES = 8, MOST_WORDS = 16, MOST_RUNS = 16, MOST_PASSED = 64 };
 
 /* The longest name of a category that a policy gives, or of a gate, in bytes. */
 enum { MOST_NAME = 31 };
@@ -64,6 +64,7 @@ struct report {
     struct levels levels;
     histar_object object;
     int file;        /* where it lies, by O_PATH */
+    int staged;      /* what gates have printed for it, until the end; -1 where none has */
     int folder;      /* which of the plan's folders it stands in */
     bool is_refused; /* the program was refused it once */
 };
@@ -98,6 +99,8 @@ struct plan {
     char open[MOST_OPEN][PATH_MAX]; /* folders that it may read at any label */
     int category_count, secret_count, report_count, folder_count, gate_count, open_count;
     struct levels born, clearance; /* the program's label at its start, and the highest that it may have */
+    const char *passed[MOST_PASSED]; /* names of the environment that the program is given too */
+    int passed_count;
     bool explains;
     const char *dump; /* where the log's dump goes, or NULL */
     char **program;
@@ -107,23 +110,28 @@ struct plan {
 struct world {
     pid_t keeper;
     int keeper_socket; /* to the keeper: a secret's number; from it: an errno */
+    int program_socket; /* to the program, until it has begun */
     int listener;      /* notifications of system calls */
     int input;         /* what the program reads of its standard input; -1 where it has none */
     int printed[2];    /* what the program prints: its standard output and its standard error */
     int scratch;       /* the folder of the program's own folders: /tmp is "tmp", and the plan's folder 0 is "0" */
     int doors[MOST_SECRETS]; /* where the broker is asked for a secret; -1 where it has no door */
+    int door_places[MOST_SECRETS];
+    int placed[MOST_REPORTS]; /* what stood for each report at first */
 };
 
 /* The program with all that it starts: one thread of the kernel, and one world. Its processes share pipes, signals and
  * memory, which nobody looks at, so what one of them has read all may have. */
 struct family {
     histar_object thread;
+    unsigned long number;            /* its own */
+    struct levels levels;            /* its label */
     bool prints;                     /* what it prints may be shown */
     bool is_open[MOST_SECRETS];      /* it has the secret in its world */
     bool holds_report[MOST_REPORTS]; /* it was given the report to write, for good */
     bool holds_gate[MOST_GATES];     /* it was given a way to the gate, for good */
     bool replaces[MOST_REPORTS];     /* it opened the report not only to add to it */
-    ino_t placed[MOST_REPORTS];      /* the file that stood for the report at first */
+    bool empties[MOST_REPORTS];      /* it opened the report as an empty one */
     struct world world;
 };
 
@@ -160,10 +168,26 @@ void keep_apart(const struct plan *plan);
 /* The folders that the plan's reports stand in. */
 void find_folders(struct plan *plan);
 
+/* ---- mounts.c ---- */
+
+/* Whether a path lies in a folder, by whatever name that is reached too. */
+bool is_placed_below(const char *path, const char *folder);
+
+/* Whether something of a path, or that it lies in, is mounted below a folder. */
+bool is_mounted_below(const char *path, const char *folder);
+
+/* Where below a folder something is mounted, or NULL. */
+const char *mounted_in(const char *folder);
+
 /* ---- policy.cpp ---- */
 
 /* Adds what a policy file says. It ends with ENDS_USAGE and a line where the file is none. */
 void read_policy(const char *path, struct plan *plan);
+
+/* ---- environment.c ---- */
+
+/* The environment that the program is given. */
+char **environment_of(const struct plan *plan);
 
 /* ---- decisions.c: what the label kernel says ---- */
 
@@ -184,14 +208,20 @@ bool holds_report(struct plan *plan, struct family *family, int report);
  * then on the program has it, for good. */
 bool enters_gate(struct plan *plan, struct family *family, int gate);
 
+/* Whether a piece that the program writes to a gate gets through it now. */
+bool passes_gate(const struct plan *plan, const struct family *family, int gate);
+
 /* Whether what a gate's program makes may be shown, also where it goes to a report. */
 bool shows_gate(const struct plan *plan, int gate);
 
 /* Makes a thread for a program that another starts, at a label that is asked for: the other makes it. The refusal, or 0. */
 uint32_t is_spawned(const struct plan *plan, const struct family *by, const struct levels *levels, struct family *family);
 
-/* A new object of a family's label, which it writes and another reads. */
-histar_object make_between(const struct plan *plan, const struct family *writer);
+/* Makes the thread anew of a family that waited, and was let go meanwhile: whether it may be made was asked before. */
+void spawn_again(const struct plan *plan, struct family *family);
+
+/* A new object of a label, which one family writes and another reads. */
+histar_object make_between(const struct plan *plan, const struct levels *levels);
 
 /* An object or a thread goes. */
 void forget(histar_object object);
@@ -218,20 +248,21 @@ void tell_refused(const struct plan *plan, bool prints);
 
 /* What is started. */
 struct begun {
-    char **words, **environment; /* NULL where it is that of confine */
+    char **words, **environment;
     const char *folder;          /* where it begins; NULL where that is the world's root */
     bool has_input;              /* the broker fills its standard input */
 };
 
-/* Begins to start a program in a world of its own. */
-void begin_start(const struct plan *plan, const struct begun *begun, struct world *world);
+/* Begins to start a program in a world of its own. Whether that could be begun. */
+bool begin_start(const struct plan *plan, const struct begun *begun, struct world *world);
 
 /* Waits until the program waits for the first answer. Where that fails a line said why, and it gives the status that confine ends
  * with; else 0. */
 int end_start(struct world *world);
 
-/* Ends the program where it has not ended, and says with which status; -1 where it has none. */
-int end_world(struct world *world, bool is_killed);
+/* The broker has done with a world; its keeper ends by itself, and is waited for then. */
+void close_world(struct world *world);
+void reap_keepers(void);
 
 /* Ends with ENDS_UNABLE and a line: this machine lacks something. */
 ENDS void unable(const char *what);
@@ -245,6 +276,9 @@ void must(long result, const char *what);
 /* Folders, files and devices that each program finds, up to NULL. */
 enum { MOST_ALWAYS = 32 };
 extern const char *const ALWAYS[MOST_ALWAYS];
+
+/* Makes devices that are this world's alone, where the machine's root may; before it has its own users. */
+void make_devices(void);
 
 /* Makes the world in a new mount namespace, but for /proc. */
 void make_world(const struct plan *plan);
@@ -283,12 +317,9 @@ int load_filter(bool has_doors);
 
 /* ---- doors.c ---- */
 
-/* What the doors of a world wait for, a place for each secret; and answers what was asked there. */
-void list_doors(const struct plan *plan, const struct world *world, struct pollfd *waits);
-void answer_doors(struct plan *plan, struct family *family, const struct pollfd *waits);
-
-/* The program can ask there no more. */
-void close_doors(const struct plan *plan, struct world *world);
+/* Awaits the doors of a world; and answers what was asked there. */
+void await_doors(const struct plan *plan, struct world *world);
+void answer_doors(struct plan *plan, struct family *family);
 
 /* ---- descriptors.c ---- */
 
@@ -298,108 +329,240 @@ bool send_descriptor(int socket, int descriptor);
 /* Takes one, or -1. */
 int receive_descriptor(int socket);
 
+/* A descriptor that neither reads nor writes, but keeps what another leads to, so that its number is given to nothing else; -1. */
+int pin(int file);
+
+/* The broker may have as many as its user may, since it has some for each program; and what it starts as many as before. */
+void raise_files(void);
+void lower_files(void);
+
+/* Whether two lead to the same. */
+bool is_same(int one, int other);
+
 /* ---- gates.c ---- */
 
 /* Where gates stand in the program's world. */
 #define GATES "/gate"
 
-/* Starts a gate's program, and gives what leads to its input; -1 with errno. At most MOST_RUNS run at once. */
-int start_gate(const struct plan *plan, int gate);
+/* What leads a family to a gate, to be handed out; -1 with errno. A family has at most MOST_RUNS of them. */
+int open_way(struct plan *plan, const struct family *family, int gate);
 
-/* The gate that a descriptor leads to, or -1. */
-int gate_behind(int file);
+/* The gate that a family's descriptor leads to, which is given to another from now on; -1 where it leads to none. */
+int lend_way(const struct family *family, int file);
 
-/* Waits until all gates' programs have ended. A line tells each that failed, where what the gate makes goes. */
-void end_gates(const struct plan *plan);
+/* Starts a gate's program for a family, and gives what leads to its input; -1 with errno. */
+int begin_gate(struct plan *plan, const struct family *family, int gate);
+
+/* Whether something that a family wrote may be on its way. */
+bool has_ways(const struct family *family);
+
+/* Takes all that a family has written so far. */
+void take_ways_before(struct plan *plan, const struct family *family);
+
+void await_gates(void);
+void serve_gates(struct plan *plan);
+bool are_gates_done(void);
+
+/* No gate is given more, and each is asked to end; and sends a signal to each. */
+void end_input_of_gates(void);
+void kill_gates(int signal);
 
 /* ---- reports.c ---- */
 
 /* Each report by where it lies, so that no later name leads elsewhere. */
 void find_reports(struct plan *plan);
 
-/* Notes the files that stand for the reports in a world that was just made. */
-void note_reports(const struct plan *plan, struct family *family);
+/* Notes the files that stand for the reports in a world that was just made. Whether all are there. */
+bool note_reports(const struct plan *plan, struct family *family);
 
 /* The program, which holds a report, opens it to write it, with these flags. */
 void begin_report(const struct plan *plan, struct family *family, int report, int flags);
 
-/* Adds what the program has left of each report to the report, as far as the kernel allows it. Whether all was written. */
-bool copy_reports(struct plan *plan, struct family *family);
+/* Begins to keep what gates print for a report; and what leads to the end of it, or -1. */
+bool stage(struct report *report);
+int staged_of(const struct report *report);
+
+/* Keeps what the program has left of each report, as far as the kernel allows it. */
+void leave_reports(struct plan *plan, struct family *family);
+
+/* Once all has ended: adds all that was kept to the reports. Whether all was written, as far as that may be told. */
+bool lay_reports(struct plan *plan);
 
 /* ---- broker.c ---- */
 
-/* Answers until the program and all that it started have ended, and tells with which status; it is 0 where that may not be told. */
-int serve(struct plan *plan, struct family *family);
-
-/* Begins to answer a family's calls. */
-void begin_answers(const struct plan *plan, struct family *family);
+/* Begins to answer a family's calls. Whether its world is as it has to be. */
+bool begin_answers(const struct plan *plan, struct family *family);
 
 /* Puts a secret into a family's world, once its label has risen to it. An errno, 0 where it is there. */
 int open_secret(struct plan *plan, struct family *family, int secret);
 
+/* Whether the program waits for an answer on the processor that gives it, where the machine's kernel can do that (Linux 6.6). */
+void wake_at_once(int listener, bool does);
+
 /* Answers the next call of a family. */
 void answer_call(struct plan *plan, struct family *family);
 
-/* ---- spawn.c: programs that the program starts at a label ---- */
+/* ---- polls.c: what a round of the broker waits for ---- */
+
+void begin_round(void);
+
+/* Waits for this too. Where it is found in this round; -1 where there is none. */
+int await(int file, short events);
+
+/* Waits so long, for good where that is below 0. False with errno. */
+bool wait_round(int milliseconds);
+
+/* What came there; and what there is now, without a wait. */
+short came(int place);
+short came_now(int file, short events);
+
+/* ---- streams.c: what is relayed ---- */
+
+enum { STREAMS = 3 };
+
+/* What waits to go from one descriptor to another. Each piece is a write of the writer's and a read of the reader's, and its end too;
+ * that the reader ends, or how fast it takes, is a write of the reader's and a read of the writer's. */
+struct stream {
+    const struct plan *plan;
+    enum { TYPED, PRINTED, BETWEEN, TO_GATE } kind; /* from outside, to outside, from one family to another, or through a gate */
+    int gate;
+    char *text;
+    size_t size, count, begin;
+    int from, to;                          /* -1 once it is at its end */
+    int from_place, to_place;
+    const struct family *writer, *reader;  /* NULL where it is outside, or has ended */
+    histar_object forth, back;             /* between two families: what the writer writes, and what the reader writes */
+    bool is_held;                          /* its reader may not have it: it waits for another */
+    bool is_cut;                           /* its writer may not write it any more */
+    bool is_stuck;                         /* its writer's end may not be seen */
+    bool is_dropped;                       /* some of it was */
+    bool is_lost;                          /* what it leads to could not be written */
+};
+
+/* A stream from nowhere to nowhere; and back to that. */
+struct stream no_stream(void);
+void drop_stream(struct stream *stream);
+
+/* A descriptor of another's as one that never makes the broker wait, to read or to write; -1 with errno where it can't be that. */
+int unblocked(int file, int access);
+
+/* Awaits what a stream waits for, and takes what is there and gives what can be written. Whether it took something. */
+void await_stream(struct stream *stream);
+bool serve_stream(struct stream *stream);
+
+/* Gives what can be given now. */
+void give(struct stream *stream);
+
+/* Takes all that its writer has written so far. */
+void take_before(struct stream *stream);
+
+/* The reader is told of the end, if there is one and nothing waits. */
+void end_if_empty(struct stream *stream);
+
+/* Nobody reads any more: the writer is told so, where it may know that. */
+void end_reader(struct stream *stream);
+
+/* What is written waits for another reader: the first is told of its end. */
+void hold(struct stream *stream);
+
+/* Where the reader may not have what is written, it is told of the stream's end at once; and where the writer may write no more, once
+ * all is given that it wrote before. So the end of the writer is not seen by it. */
+void settle(struct stream *stream);
+
+/* ---- requests.c: what is asked for ---- */
+
+struct request {
+    char *bytes, **texts, **words;
+    struct begun begun;
+    int files[STREAMS];
+};
+
+/* Takes what a socket has; NULL where that is no request. */
+struct request *read_request(int socket);
+void drop_request(struct request *request);
+
+/* A label as its categories, each with a level or at 3: "health,money=2". */
+bool read_label(const struct plan *plan, const char *text, struct levels *levels);
+
+/* ---- programs.c, spawn.c: the program, and those that it starts at a label ---- */
 
 /* Where a program asks for a start, and where the program is that does so. */
 #define RUN GATES "/run"
 #define RUN_FOLDER "/confine"
 #define RUN_NAME "confine-run"
 
-/* So many starts are asked for or run at once, and each waits for so many things. */
-enum { MOST_STARTS = 16, DOORS_OF_START = 8, WAITS_OF_START = DOORS_OF_START + MOST_SECRETS, MOST_WAITS_OF_STARTS = MOST_STARTS * WAITS_OF_START };
+/* So many run of which who asked may know; so many at one label and at all of which he may not, and so many of these wait; the texts of
+ * so many that have ended wait at one label; so many are made in all; and so many calls of one are answered in a turn. */
+enum { MOST_SHOWN = 16, MOST_AT_LABEL = 8, MOST_HIDDEN = 24, MOST_QUEUED = 1000, MOST_HELD = 2, MOST_MADE = 64, MOST_CALLS = 8 };
 
-/* What leads a program to the broker, to ask for a start; -1 with errno. */
-int open_run(struct family *by);
+struct program {
+    struct program *next;
+    const struct family *by; /* who asked for it; NULL for the first one */
+    struct family *family;
+    enum { ASKED, WAITING, STARTING, RUNNING, ENDING, ENDED } stage;
+    struct request *request;      /* until it runs */
+    int socket;                   /* to who asked; -1 once it was told of an end */
+    int socket_place, own_place, call_place;
+    struct stream streams[STREAMS];
+    int pins[STREAMS];            /* the pipes of the asker's that they lead to, or -1 */
+    int gates[STREAMS];           /* the gates, or -1 */
+    histar_object in, out;        /* what is between the asker and what was started */
+    struct levels by_levels;      /* the asker's label as he asked */
+    bool is_hidden, is_killed, is_served; /* in this round */
+    bool is_slow;                 /* it has no processor of the broker's */
+    int status;
+};
 
-/* Whether all that was started has ended, and all that it printed is where it goes. */
-bool are_starts_done(void);
+struct program *first_program(void); /* and others by their next */
 
-/* What all starts wait for, and how many things that are; and what is done once they have it. */
-int list_starts(const struct plan *plan, struct pollfd *waits);
-void serve_starts(struct plan *plan, const struct pollfd *waits);
+/* Whether there are as many programs as the kernel has room for. */
+bool are_most_made(void);
+struct program *add_program(const struct family *by, struct family *family);
+void take_away(struct program *program);
 
-/* Ends what was started and has not ended, and tells whether something of what it printed was withheld. */
-void end_starts(struct plan *plan);
+/* Whether a program is being started, runs, or is about to have ended. */
+bool is_running(const struct program *program);
+
+/* The status of a program that has ended: a fault where what it printed could not be written. */
+int status_of(const struct program *program);
+
+/* Tells who asked of an end, with a status and a line, or none. */
+void tell_end(struct program *program, int status, const char *line);
+
+/* Who asked and may not know of a program is told of an end at once. */
+void mask(struct program *program);
+
+void await_programs(struct plan *plan);
+void serve_program(struct plan *plan, struct program *program);
+void put_away_programs(void);
+bool are_programs_done(void);
+void kill_program(struct program *program);
+void kill_programs(void);
+
+/* Whatever has not ended is taken as ended, and a line tells whether something that was printed got nowhere. */
+void end_programs(struct plan *plan);
+
+/* Before a family's label may rise, and once it has. */
+void before_rise(struct plan *plan, const struct family *family);
+void after_rise(const struct family *family);
+
+/* What leads a family to the broker, to ask for a start; -1 with errno. */
+int open_run(const struct family *by);
+
+/* Takes what was asked for; begins what waits and has a place; goes on with what was begun. */
+void take_request(struct plan *plan, struct program *program);
+void begin_waiting(struct plan *plan);
+void end_begun(struct plan *plan, struct program *program);
+
+/* ---- serve.c ---- */
+
+/* Serves until the program and all that it started have ended, and tells with which status; it is 0 where that may not be told. */
+int serve(struct plan *plan, struct program *program);
 
 /* ---- run.c: the program that asks for a start ---- */
 
 /* Asks the broker, and ends as what was started ends. */
 int ask_run(int count, char **words);
-
-/* ---- streams.c: what is relayed ---- */
-
-/* What waits to go from one descriptor to another. Where two families are at its ends, it is taken from the one as soon as it is
- * there, so that no family learns how fast the other takes it, and given to the other where the kernel allows it. */
-struct stream {
-    char *text;
-    size_t size, count, begin;
-    int from, to;                          /* -1 once it is at its end */
-    const struct family *writer, *reader;  /* NULL where it is of no family, or goes through a gate */
-    histar_object between;                 /* what the one writes and the other reads, or nothing */
-    bool is_held;                          /* its reader may not have it: it waits for another */
-    bool is_cut;                           /* its writer may not write it any more */
-    bool is_dropped;                       /* some of it was */
-};
-
-/* A stream from here to there. */
-struct stream stream_of(int from, int to);
-
-/* Takes what is there to be read, or gives what can be written. */
-void take(struct stream *stream);
-void give(struct stream *stream);
-
-/* Where the reader may not have what is written, it is told of the stream's end at once; and where the writer may write no more, once
- * all is given that it wrote before. So the end of the writer is not seen by it. */
-void cut(struct stream *stream);
-
-/* What a stream waits for: its beginning, and its end. */
-struct pollfd taken_from(const struct stream *stream);
-struct pollfd given_to(const struct stream *stream);
-
-/* Shows what was printed, or drops it. Whether there may be more. */
-bool relay(int from, int to, bool is_shown);
 
 /* ---- waits.c ---- */
 
@@ -408,6 +571,11 @@ void delay_wait(int listener, uint64_t id, pid_t pid, const uint64_t *arguments)
 
 /* Answers what is due. How long it may take until the next is, in milliseconds; -1 where none is. */
 int end_waits(void);
+
+/* ---- machine.c ---- */
+
+/* Answers a call that asks for the machine's counters. */
+void answer_machine(int listener, uint64_t id, pid_t pid, uint64_t at);
 
 /* ---- all ---- */
 

@@ -4,8 +4,8 @@
 #include <stdlib.h>
 #include <string.h>
 
-/* (8 secrets, reports and gates, 16 starts with a thread and two segments each, and what is probed take some 120 pages.) */
-enum { PAGES = 160, SEGMENT_QUOTA = 2, HIGHEST = 3 };
+/* (Each of MOST_MADE programs takes a thread and two segments: five pages. The rest takes some 40. More pages take longer to make.) */
+enum { PAGES = 384, SEGMENT_QUOTA = 2, HIGHEST = 3 };
 
 static histar kernel;
 static histar_object terminal;
@@ -195,6 +195,13 @@ static bool may_rise(const struct plan *plan, const struct family *family, const
     return false;
 }
 
+/* Notes what a family's label is, and that it may be shown what it prints. */
+static void note_label(const struct plan *plan, struct family *family)
+{
+    family->levels = own_levels(plan, family);
+    family->prints = !writes(family->thread, terminal);
+}
+
 bool is_born(struct plan *plan, struct family *family)
 {
     struct levels plain = {{1, 1, 1, 1, 1, 1, 1, 1}};
@@ -204,7 +211,7 @@ bool is_born(struct plan *plan, struct family *family)
     tell_id(plan, family->thread, "the program");
     label = plain_label(plan, &plan->born);
     MUST(histar_self_set_label(&kernel, family->thread, &label));
-    family->prints = !writes(family->thread, terminal);
+    note_label(plan, family);
     return true;
 }
 
@@ -212,14 +219,22 @@ uint32_t is_spawned(const struct plan *plan, const struct family *by, const stru
 {
     histar_label label = plain_label(plan, levels), clearance = clearance_of(plan);
     uint32_t refusal = histar_thread_create(&kernel, by->thread, HISTAR_ROOT, &label, 1, &clearance, 0, &family->thread);
-    if (!refusal) tell_id(plan, family->thread, "a program that it started");
-    return refusal;
+    if (refusal) return refusal;
+    tell_id(plan, family->thread, "a program that it started");
+    note_label(plan, family);
+    return 0;
 }
 
-histar_object make_between(const struct plan *plan, const struct family *writer)
+void spawn_again(const struct plan *plan, struct family *family)
 {
-    struct levels levels = own_levels(plan, writer);
-    return make_segment(plan, &levels, "what a program gives to another");
+    histar_label label = plain_label(plan, &family->levels);
+    family->thread = make_thread(plan, &label);
+    tell_id(plan, family->thread, "a program that it started");
+}
+
+histar_object make_between(const struct plan *plan, const struct levels *levels)
+{
+    return make_segment(plan, levels, "what a program gives to another");
 }
 
 void forget(histar_object object) { MUST(histar_unref(&kernel, HISTAR_BOOT, entry_of(object))); }
@@ -231,7 +246,7 @@ bool reads_between(const struct family *reader, histar_object between) { return 
 /* What the program knows from now on may get to all that it was given to write: the kernel is told. */
 static void write_held(const struct plan *plan, struct family *family)
 {
-    family->prints = !writes(family->thread, terminal);
+    note_label(plan, family);
     for (int i = 0; i < plan->report_count; i++)
         if (family->holds_report[i]) MUST(writes(family->thread, plan->reports[i].object));
 }
@@ -253,7 +268,7 @@ static bool rises_to(const struct plan *plan, struct family *family, struct repo
     if (!reads(family->thread, report->object)) return true;
     if (!may_rise(plan, family, &report->levels, report->path, &report->is_refused)) return false;
     MUST(histar_self_set_label(&kernel, family->thread, &label));
-    family->prints = !writes(family->thread, terminal);
+    note_label(plan, family);
     return true;
 }
 
@@ -284,6 +299,12 @@ bool enters_gate(struct plan *plan, struct family *family, int i)
         if (gate->owns[j]) most.in[j] = HIGHEST;
     explain_gate(plan, gate, &own, &most);
     return false;
+}
+
+bool passes_gate(const struct plan *plan, const struct family *family, int i)
+{
+    histar_label label = plain_label(plan, &family->levels);
+    return gets_through(plan, &plan->gates[i], &label, behind(plan, &plan->gates[i]));
 }
 
 /* A thread as high as any that gets to what the gate writes is asked for. */

@@ -1,9 +1,13 @@
-/* Descriptors that go through a socket. */
+/* Descriptors: those that go through a socket, and what one leads to. */
 #define _GNU_SOURCE
 #include "confine.h"
+#include <fcntl.h>
 #include <string.h>
+#include <sys/resource.h>
 #include <sys/socket.h>
+#include <sys/stat.h>
 #include <sys/uio.h>
+#include <unistd.h>
 
 bool send_descriptor(int socket, int descriptor)
 {
@@ -31,4 +35,32 @@ int receive_descriptor(int socket)
     head = CMSG_FIRSTHDR(&message);
     if (head && head->cmsg_type == SCM_RIGHTS) memcpy(&descriptor, CMSG_DATA(head), sizeof descriptor);
     return descriptor;
+}
+
+int pin(int file)
+{
+    char link[64];
+    snprintf(link, sizeof link, "/proc/self/fd/%d", file);
+    return open(link, O_PATH | O_CLOEXEC);
+}
+
+bool is_same(int one, int other)
+{
+    struct stat first, second;
+    return one >= 0 && other >= 0 && !fstat(one, &first) && !fstat(other, &second) && first.st_dev == second.st_dev && first.st_ino == second.st_ino;
+}
+
+static struct rlimit before;
+
+void raise_files(void)
+{
+    struct rlimit most;
+    if (getrlimit(RLIMIT_NOFILE, &before)) return;
+    most = (struct rlimit){before.rlim_max, before.rlim_max};
+    setrlimit(RLIMIT_NOFILE, &most);
+}
+
+void lower_files(void)
+{
+    if (before.rlim_max) setrlimit(RLIMIT_NOFILE, &before);
 }

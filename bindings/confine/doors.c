@@ -73,19 +73,14 @@ static bool answer_door(struct plan *plan, struct family *family, int secret)
     return true;
 }
 
-void list_doors(const struct plan *plan, const struct world *world, struct pollfd *waits)
+void await_doors(const struct plan *plan, struct world *world)
 {
-    for (int i = 0; i < MOST_SECRETS; i++) waits[i] = (struct pollfd){i < plan->secret_count ? world->doors[i] : -1, POLLIN, 0};
+    for (int i = 0; i < plan->secret_count; i++) world->door_places[i] = await(world->doors[i], POLLIN);
 }
 
-void answer_doors(struct plan *plan, struct family *family, const struct pollfd *waits)
+void answer_doors(struct plan *plan, struct family *family)
 {
+    struct world *world = &family->world;
     for (int i = 0; i < plan->secret_count; i++)
-        if (waits[i].revents && !answer_door(plan, family, i)) close(family->world.doors[i]), family->world.doors[i] = -1;
-}
-
-void close_doors(const struct plan *plan, struct world *world)
-{
-    for (int i = 0; i < plan->secret_count; i++)
-        if (world->doors[i] >= 0) close(world->doors[i]), world->doors[i] = -1;
+        if (world->doors[i] >= 0 && came(world->door_places[i]) && !answer_door(plan, family, i)) close(world->doors[i]), world->doors[i] = -1;
 }

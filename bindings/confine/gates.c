@@ -1,6 +1,10 @@
 /* Gates: programs outside, each trusted with what its categories keep. A program that may know more than it may tell writes
  * to a gate; what the gate makes of it goes where the gate's label allows.
  *
+ * Who opens a gate is given a socket, whose other end the broker alone has: so nothing can be read back there, nor by opening it anew.
+ * What is written there is decided as a write of the writer's, and goes to a run of the gate's program that is the writer's own. A
+ * program that is started with such a socket as its output has a way and a run of its own.
+ *
  * The kernel decides whether a thread at the program's label may enter the gate and write behind it. The gate's program runs as
  * the user, without a sandbox. It has as standard input what the program writes, and nothing else from it. */
 #define _GNU_SOURCE
@@ -11,31 +15,36 @@
 #include <stdlib.h>
 #include <string.h>
 #include <sys/prctl.h>
-#include <sys/stat.h>
+#include <sys/socket.h>
+#include <sys/syscall.h>
 #include <sys/wait.h>
 #include <unistd.h>
 
 /* A start of a gate's program, until it has ended. */
 struct run {
-    pid_t pid; /* 0 where there is none */
-    int gate;
-    ino_t pipe; /* what leads to its input */
+    struct run *next;
+    unsigned long by; /* whose it is */
+    int gate, place;
+    int process; /* what tells that it has ended */
+    pid_t pid;
 };
 
-static struct run runs[MOST_RUNS];
+/* What was handed out. Its gate's program starts once something is written to it, or it ends unused. */
+struct way {
+    struct way *next;
+    unsigned long by;
+    int pin; /* what was handed out, by O_PATH: so its number is given to nothing else */
+    bool is_begun, is_lent;
+    struct stream stream;
+};
 
-/* What stands after all that a report has. */
-static int end_of(const struct report *report)
-{
-    char link[64];
-    snprintf(link, sizeof link, "/proc/self/fd/%d", report->file);
-    return open(link, O_WRONLY | O_APPEND | O_CLOEXEC);
-}
+static struct run *runs;
+static struct way *ways;
 
 /* The gate's program prints to its report, its errors too, or as confine itself. Whether it can. */
 static bool print_as(const struct plan *plan, const struct gate *gate)
 {
-    int output = gate->report == SHOWN ? 1 : end_of(&plan->reports[gate->report]);
+    int output = gate->report == SHOWN ? 1 : staged_of(&plan->reports[gate->report]);
     return output >= 0 && (output == 1 || (dup2(output, 1) == 1 && dup2(output, 2) == 2));
 }
 
@@ -46,6 +55,7 @@ _Noreturn static void become_gate(const struct plan *plan, const struct gate *ga
     sigemptyset(&none);
     for (int i = 0; i < gate->word_count; i++) words[i] = (char *)gate->words[i];
     prctl(PR_SET_PDEATHSIG, SIGKILL, 0, 0, 0);
+    lower_files();
     if (!print_as(plan, gate) || dup2(input, 0) < 0 || close_range(3, ~0U, 0)) _exit(ENDS_FAULT);
     signal(SIGPIPE, SIG_DFL);
     sigprocmask(SIG_SETMASK, &none, NULL);
@@ -55,66 +65,157 @@ _Noreturn static void become_gate(const struct plan *plan, const struct gate *ga
 }
 
 /* That a gate failed is told where what it makes goes: here, or in its report. */
-static void tell_failed(const struct plan *plan, int i)
+static void tell_failed(struct plan *plan, int i)
 {
     const struct gate *gate = &plan->gates[i];
-    int file = shows_gate(plan, i) ? 2 : end_of(&plan->reports[gate->report]);
+    int file = shows_gate(plan, i) ? 2 : staged_of(&plan->reports[gate->report]);
     if (file < 0) return;
     dprintf(file, "confine: the gate %s failed\n", gate->name);
     if (file != 2) close(file);
 }
 
-/* Waits for a start to end, or looks whether it has. */
-static void end(const struct plan *plan, struct run *run, int options)
+int begin_gate(struct plan *plan, const struct family *family, int i)
 {
-    int status;
-    if (!run->pid || waitpid(run->pid, &status, options) != run->pid) return;
-    run->pid = 0;
-    if (!WIFEXITED(status) || WEXITSTATUS(status)) tell_failed(plan, run->gate);
-}
-
-static struct run *free_run(const struct plan *plan)
-{
-    for (int i = 0; i < MOST_RUNS; i++) {
-        end(plan, &runs[i], WNOHANG);
-        if (!runs[i].pid) return &runs[i];
-    }
-    return NULL;
-}
-
-static ino_t inode_of(int file)
-{
-    struct stat found;
-    return fstat(file, &found) || !S_ISFIFO(found.st_mode) ? 0 : found.st_ino;
-}
-
-int gate_behind(int file)
-{
-    ino_t pipe = inode_of(file);
-    for (int i = 0; i < MOST_RUNS && pipe; i++)
-        if (runs[i].pid && runs[i].pipe == pipe) return runs[i].gate;
-    return -1;
-}
-
-int start_gate(const struct plan *plan, int i)
-{
-    struct run *run = free_run(plan);
-    int ends[2];
+    struct run *run = calloc(1, sizeof *run);
+    int ends[2] = {-1, -1}, report = plan->gates[i].report;
     errno = EAGAIN;
-    if (!run || pipe2(ends, O_CLOEXEC)) return -1;
-    run->gate = i;
-    run->pipe = inode_of(ends[1]);
-    run->pid = fork();
+    if (!run || (report != SHOWN && !stage(&plan->reports[report])) || pipe2(ends, O_CLOEXEC) || fcntl(ends[1], F_SETFL, O_NONBLOCK)
+        || (run->pid = fork()) < 0) {
+        free(run);
+        close(ends[0]), close(ends[1]);
+        errno = EAGAIN;
+        return -1;
+    }
     if (!run->pid) become_gate(plan, &plan->gates[i], ends[0]);
     close(ends[0]);
-    if (run->pid > 0) return ends[1];
-    run->pid = 0;
-    close(ends[1]);
-    errno = EAGAIN;
+    run->by = family->number;
+    run->gate = i;
+    run->process = (int)syscall(SYS_pidfd_open, run->pid, 0);
+    run->place = -1;
+    run->next = runs;
+    runs = run;
+    return ends[1];
+}
+
+/* How many ways and runs a family has: the bound is its own, so that it learns nothing of others. */
+static int held_by(const struct family *family)
+{
+    int count = 0;
+    for (const struct run *run = runs; run; run = run->next) count += run->by == family->number;
+    for (const struct way *way = ways; way; way = way->next) count += way->by == family->number && !way->is_begun;
+    return count;
+}
+
+int open_way(struct plan *plan, const struct family *family, int gate)
+{
+    struct way *way = held_by(family) < MOST_RUNS ? calloc(1, sizeof *way) : NULL;
+    int ends[2] = {-1, -1};
+    if (!way || socketpair(AF_UNIX, SOCK_STREAM | SOCK_CLOEXEC, 0, ends) || shutdown(ends[0], SHUT_WR) || (way->pin = pin(ends[1])) < 0) {
+        free(way);
+        close(ends[0]), close(ends[1]);
+        errno = EAGAIN;
+        return -1;
+    }
+    way->by = family->number;
+    way->stream = no_stream();
+    way->stream.plan = plan;
+    way->stream.kind = TO_GATE;
+    way->stream.gate = gate;
+    way->stream.writer = family;
+    way->stream.from = ends[0];
+    way->next = ways;
+    ways = way;
+    return ends[1];
+}
+
+int lend_way(const struct family *family, int file)
+{
+    for (struct way *way = ways; way; way = way->next)
+        if (way->by == family->number && is_same(way->pin, file)) return way->is_lent = true, way->stream.gate;
     return -1;
 }
 
-void end_gates(const struct plan *plan)
+bool has_ways(const struct family *family)
 {
-    for (int i = 0; i < MOST_RUNS; i++) end(plan, &runs[i], 0);
+    for (const struct way *way = ways; way; way = way->next)
+        if (way->by == family->number && way->stream.from >= 0) return true;
+    return false;
+}
+
+void await_gates(void)
+{
+    for (struct way *way = ways; way; way = way->next) await_stream(&way->stream);
+    for (struct run *run = runs; run; run = run->next) run->place = await(run->process, POLLIN);
+}
+
+/* Begins what leads on from a way, once something was written to it. One that ends unused, and was not lent, is one of nothing. */
+static void begin_way(struct plan *plan, struct way *way)
+{
+    char byte;
+    ssize_t count = recv(way->stream.from, &byte, 1, MSG_PEEK | MSG_DONTWAIT);
+    if (count < 0 && (errno == EAGAIN || errno == EINTR)) return;
+    way->is_begun = true;
+    if (count > 0 || !way->is_lent) way->stream.to = begin_gate(plan, way->stream.writer, way->stream.gate);
+}
+
+static void serve_way(struct plan *plan, struct way *way)
+{
+    if (!way->is_begun && came(way->stream.from_place)) begin_way(plan, way);
+    if (way->is_begun) serve_stream(&way->stream);
+}
+
+static void take_away_way(struct way **at)
+{
+    struct way *way = *at;
+    *at = way->next;
+    close(way->pin);
+    drop_stream(&way->stream);
+    free(way);
+}
+
+static void end_run(struct plan *plan, struct run **at)
+{
+    struct run *run = *at;
+    int status;
+    if (waitpid(run->pid, &status, WNOHANG) != run->pid) return;
+    if (!WIFEXITED(status) || WEXITSTATUS(status)) tell_failed(plan, run->gate);
+    *at = run->next;
+    close(run->process);
+    free(run);
+}
+
+void serve_gates(struct plan *plan)
+{
+    for (struct way **at = &ways; *at;) {
+        serve_way(plan, *at);
+        if ((*at)->is_begun && (*at)->stream.from < 0 && (*at)->stream.to < 0) take_away_way(at);
+        else at = &(*at)->next;
+    }
+    for (struct run **at = &runs; *at;) {
+        struct run *before = *at;
+        if (came(before->place)) end_run(plan, at);
+        if (*at == before) at = &before->next;
+    }
+}
+
+void take_ways_before(struct plan *plan, const struct family *family)
+{
+    for (struct way *way = ways; way; way = way->next) {
+        if (way->by != family->number) continue;
+        if (!way->is_begun) begin_way(plan, way);
+        if (way->is_begun) take_before(&way->stream);
+    }
+}
+
+bool are_gates_done(void) { return !runs && !ways; }
+
+void end_input_of_gates(void)
+{
+    while (ways) take_away_way(&ways);
+    kill_gates(SIGTERM);
+}
+
+void kill_gates(int signal)
+{
+    for (struct run *run = runs; run; run = run->next) kill(run->pid, signal);
 }

@@ -18,6 +18,7 @@ static const char HELP[] =
     "      --report <FILE>    It may write this file; after --secret, also once it has read that secret\n"
     "      --public <FOLDER>  It may read this folder too, as it may read /usr\n"
     "      --policy <FILE>    Labels, a clearance and gates, as docs/CONFINE.md has them\n"
+    "      --env <NAME>       It is given this variable of the environment, besides PATH, LANG, TERM and other plain ones\n"
     "      --born-tainted     It counts as having read all secrets from its start\n"
     "      --audit <DUMP>     Where to write all decisions as a dump, for histar-audit\n"
     "      --explain          Print the id of each thing, and a line for each refusal, and why\n"

@@ -81,7 +81,7 @@ _Noreturn static void become_program(const struct ends *ends)
     if ((listener = load_filter(doors_of() != NULL)) < 0) unable("seccomp's notifications");
     if (!send_descriptor(3, listener) || close(listener) || read(3, &may_go, 1) != 1) _exit(ENDS_FAULT);
     if (dup2(4, 2) < 0 || close(4)) _exit(ENDS_FAULT);
-    if (begun->environment) environ = begun->environment;
+    environ = begun->environment;
     add_run();
     if (!begun->folder || !chdir(begun->folder)) execvp(begun->words[0], begun->words);
     dprintf(2, "confine: %s: %s\n", begun->words[0], strerror(errno));
@@ -93,7 +93,7 @@ static void close_all(const int *files, int count)
     for (int i = 0; i < count; i++) close(files[i]);
 }
 
-static int status_of(int status)
+static int ended_with(int status)
 {
     return WIFEXITED(status) ? WEXITSTATUS(status) : 128 + WTERMSIG(status);
 }
@@ -115,14 +115,14 @@ _Noreturn static void run_first(const struct ends *ends)
     close(ends->program);
     while ((ended = wait(&status)) != program)
         if (ended < 0 && errno != EINTR) _exit(ENDS_FAULT);
-    _exit(status_of(status));
+    _exit(ended_with(status));
 }
 
 /* Ends as the first process of the world did. */
 _Noreturn static void exit_as(pid_t first)
 {
     int status;
-    _exit(waitpid(first, &status, 0) == first ? status_of(status) : ENDS_FAULT);
+    _exit(waitpid(first, &status, 0) == first ? ended_with(status) : ENDS_FAULT);
 }
 
 /* Puts secrets into the world as the broker names them, until the program has ended, and tells its status. A name below
@@ -140,7 +140,7 @@ _Noreturn static void keep(const struct plan *plan, pid_t first, int socket)
         if (write(socket, &answer, sizeof answer) != sizeof answer) break;
     }
     if (waitpid(first, &status, 0) != first) _exit(ENDS_FAULT);
-    answer = status_of(status);
+    answer = ended_with(status);
     if (write(socket, &answer, sizeof answer) < 0) {}
     _exit(answer);
 }
@@ -162,10 +162,12 @@ _Noreturn static void run_keeper(const struct plan *plan, struct ends *ends, int
     int entered[2];
     char byte;
     pid_t first;
+    lower_files();
     setsid();
     NEEDS(ends->proc = open("/proc", O_PATH | O_DIRECTORY | O_CLOEXEC));
     NEEDS(pipe2(entered, O_CLOEXEC));
     ends->entered = entered[1];
+    make_devices();
     NEEDS(unshare(CLONE_NEWUSER | CLONE_NEWNS | CLONE_NEWNET | CLONE_NEWIPC | CLONE_NEWPID | CLONE_NEWUTS));
     NEEDS(prctl(PR_SET_PDEATHSIG, SIGKILL, 0, 0, 0));
     take_user(user, group);
@@ -196,15 +198,27 @@ static void keep_only(const int *files, int count)
     }
 }
 
-/* What waits for the end of a start. */
-static int socket_of_program = -1;
-
-void begin_start(const struct plan *plan, const struct begun *begun, struct world *world)
+static void set(struct world *world, int input, const int *printed, int keeper, int program)
 {
-    int in[2], out[2], error[2], keeper[2], program[2];
+    world->keeper_socket = keeper;
+    world->program_socket = program;
+    world->listener = world->scratch = -1;
+    world->input = input;
+    world->printed[0] = printed[0];
+    world->printed[1] = printed[1];
+    for (int i = 0; i < MOST_SECRETS; i++) world->doors[i] = world->door_places[i] = -1;
+    for (int i = 0; i < MOST_REPORTS; i++) world->placed[i] = -1;
+}
+
+bool begin_start(const struct plan *plan, const struct begun *begun, struct world *world)
+{
+    int all[10] = {-1, -1, -1, -1, -1, -1, -1, -1, -1, -1}, *in = all, *out = all + 2, *error = all + 4, *keeper = all + 6, *program = all + 8;
     if (pipe2(in, O_CLOEXEC) || pipe2(out, O_CLOEXEC) || pipe2(error, O_CLOEXEC) || socketpair(AF_UNIX, SOCK_STREAM | SOCK_CLOEXEC, 0, keeper)
-        || socketpair(AF_UNIX, SOCK_STREAM | SOCK_CLOEXEC, 0, program) || fcntl(in[1], F_SETFL, O_NONBLOCK) || (world->keeper = fork()) < 0)
-        unable("a start");
+        || socketpair(AF_UNIX, SOCK_STREAM | SOCK_CLOEXEC, 0, program) || fcntl(in[1], F_SETFL, O_NONBLOCK)
+        || fcntl(out[0], F_SETFL, O_NONBLOCK) || fcntl(error[0], F_SETFL, O_NONBLOCK) || (world->keeper = fork()) < 0) {
+        close_all(all, 10);
+        return false;
+    }
     if (!world->keeper) {
         struct ends ends = {{in[0], out[1], error[1]}, program[1], -1, -1, begun};
         keep_only((int[]){in[0], out[1], error[1], program[1], keeper[1]}, 5);
@@ -212,12 +226,8 @@ void begin_start(const struct plan *plan, const struct begun *begun, struct worl
     }
     close_all((int[]){keeper[1], program[1], in[0], out[1], error[1]}, 5);
     if (!begun->has_input) close(in[1]), in[1] = -1;
-    world->keeper_socket = keeper[0];
-    world->listener = world->scratch = -1;
-    world->input = in[1];
-    world->printed[0] = out[0];
-    world->printed[1] = error[0];
-    socket_of_program = program[0];
+    set(world, in[1], (int[]){out[0], error[0]}, keeper[0], program[0]);
+    return true;
 }
 
 static bool receive_number(int socket, int *number) { return recv(socket, number, sizeof *number, MSG_WAITALL) == sizeof *number; }
@@ -226,7 +236,6 @@ static bool receive_number(int socket, int *number) { return recv(socket, number
 static bool receive_world(struct world *world)
 {
     int count = 0;
-    for (int i = 0; i < MOST_SECRETS; i++) world->doors[i] = -1;
     if ((world->scratch = receive_descriptor(world->keeper_socket)) < 0) return false;
     if (!receive_number(world->keeper_socket, &count)) return false;
     for (int i = 0; i < count; i++)
@@ -234,26 +243,65 @@ static bool receive_world(struct world *world)
     return true;
 }
 
-int end_start(struct world *world)
+/* The keepers that are to end, so that none is left as one that nobody waited for. */
+static pid_t *ending;
+static int ending_count;
+
+void reap_keepers(void)
 {
-    int program = socket_of_program, status;
-    bool is_there;
-    if (receive_world(world)) world->listener = receive_descriptor(program);
-    is_there = receive_number(world->keeper_socket, &status);
-    if (is_there && world->listener >= 0 && write(program, "g", 1) == 1) return close(program), 0;
-    status = end_world(world, false);
-    return status > 0 ? status : ENDS_FAULT;
+    for (int i = ending_count; i-- > 0;)
+        if (waitpid(ending[i], NULL, WNOHANG)) ending[i] = ending[--ending_count];
 }
 
-int end_world(struct world *world, bool is_killed)
+static void note_ending(pid_t keeper)
 {
-    int status, none = -1;
+    pid_t *more = realloc(ending, (size_t)(ending_count + 1) * sizeof *ending);
+    if (!more) return;
+    ending = more;
+    ending[ending_count++] = keeper;
+}
+
+static void close_one(int *file)
+{
+    if (*file >= 0) close(*file);
+    *file = -1;
+}
+
+void close_world(struct world *world)
+{
+    close_one(&world->keeper_socket);
+    close_one(&world->program_socket);
+    close_one(&world->listener);
+    close_one(&world->scratch);
+    for (int i = 0; i < MOST_SECRETS; i++) close_one(&world->doors[i]);
+    for (int i = 0; i < MOST_REPORTS; i++) close_one(&world->placed[i]);
+    note_ending(world->keeper);
+}
+
+/* The status of a keeper that told none. */
+static int status_of_keeper(struct world *world)
+{
+    int status, told;
     bool is_told;
-    if (is_killed && write(world->keeper_socket, &none, sizeof none) != sizeof none) {}
     shutdown(world->keeper_socket, SHUT_WR);
-    is_told = receive_number(world->keeper_socket, &status);
-    close(world->keeper_socket);
-    if (is_told) return status;
-    if (waitpid(world->keeper, &status, 0) != world->keeper || !WIFEXITED(status)) return -1;
-    return WEXITSTATUS(status);
+    is_told = receive_number(world->keeper_socket, &told);
+    if (!is_told && waitpid(world->keeper, &status, 0) == world->keeper && WIFEXITED(status)) told = WEXITSTATUS(status);
+    else if (!is_told) told = ENDS_FAULT;
+    return told;
+}
+
+int end_start(struct world *world)
+{
+    int status;
+    bool is_there;
+    if (receive_world(world)) world->listener = receive_descriptor(world->program_socket);
+    is_there = receive_number(world->keeper_socket, &status);
+    if (is_there && world->listener >= 0 && write(world->program_socket, "g", 1) == 1) return close_one(&world->program_socket), 0;
+    close_one(&world->program_socket);
+    status = status_of_keeper(world);
+    close_one(&world->input);
+    close_one(&world->printed[0]);
+    close_one(&world->printed[1]);
+    close_world(world);
+    return status > 0 ? status : ENDS_FAULT;
 }

@@ -34,6 +34,28 @@ static const char *begins_in(const struct plan *plan, char *here)
     return NULL;
 }
 
+static int own_end(int file, int access)
+{
+    int made = unblocked(file, access);
+    return made >= 0 ? made : fcntl(file, F_DUPFD_CLOEXEC, 3);
+}
+
+/* What the program is given and prints. */
+static void make_own_streams(struct plan *plan, struct program *program)
+{
+    const struct world *world = &program->family->world;
+    for (int i = 0; i < STREAMS; i++) {
+        struct stream *stream = &program->streams[i];
+        stream->plan = plan;
+        stream->kind = i ? PRINTED : TYPED;
+        stream->from = i ? world->printed[i - 1] : world->input < 0 ? -1 : own_end(0, O_RDONLY);
+        stream->to = i ? own_end(i, O_WRONLY) : world->input;
+        if (i) stream->writer = program->family;
+        else stream->reader = program->family;
+    }
+    program->stage = RUNNING;
+}
+
 static bool is_run(const char *word)
 {
     const char *last = strrchr(word, '/');
@@ -44,6 +66,7 @@ int main(int count, char **words)
 {
     static struct plan plan;
     static struct family family;
+    struct program *program;
     struct begun begun = {NULL, NULL, NULL, false};
     char here[PATH_MAX];
     int status;
@@ -54,13 +77,17 @@ int main(int count, char **words)
     keep_apart(&plan);
     find_folders(&plan);
     begun.words = plan.program;
+    begun.environment = environment_of(&plan);
     begun.folder = begins_in(&plan, here);
     begun.has_input = has_input(&plan);
-    begin_start(&plan, &begun, &family.world);
+    raise_files();
+    if (!begin_start(&plan, &begun, &family.world)) unable("a start");
     make_objects(&plan);
     if (!is_born(&plan, &family)) refuse("the program's label is above its clearance");
     if ((status = end_start(&family.world))) return status;
-    status = serve(&plan, &family);
+    if (!(program = add_program(NULL, &family)) || !begin_answers(&plan, &family)) fail(ENDS_FAULT, "the program's reports");
+    make_own_streams(&plan, program);
+    status = serve(&plan, program);
     if (!write_dump(&plan)) fail(ENDS_FAULT, plan.dump);
     return status;
 }

@@ -1,11 +1,17 @@
-/* Policy files, in TOML. */
+/* Policy files, in TOML. The parser takes no text whose brackets don't close each other, or that nests deep: it would end confine, or
+ * use its stack up. So that is looked at first. */
 #include "confine.h"
+#include <algorithm>
+#include <cerrno>
 #include <cstring>
+#include <exception>
 #include <filesystem>
+#include <fstream>
 #include <initializer_list>
 #include <string>
 #include <string_view>
 #define TOML_EXCEPTIONS 1
+#define TOML_ASSERT(expression) ((expression) ? void() : refuse("a policy that can't be read"))
 #include <toml++/toml.h>
 
 namespace {
@@ -120,9 +126,9 @@ void take_levels(const Reading &reading, const toml::table &table, std::string_v
     const toml::node *node = table.get(key);
     if (!node) return;
     for (const auto &[name, value] : table_of(reading, *node)) {
-        auto level = value.template value<int64_t>();
-        if (!level || *level < lowest || *level > 3) fault(reading, value, "a level is from " + std::to_string(lowest) + " to 3");
-        levels.in[category_of(reading, value, name.str())] = static_cast<uint8_t>(*level);
+        const auto *level = value.as_integer();
+        if (!level || level->get() < lowest || level->get() > 3) fault(reading, value, "a level is from " + std::to_string(lowest) + " to 3");
+        levels.in[category_of(reading, value, name.str())] = static_cast<uint8_t>(level->get());
     }
 }
 
@@ -180,6 +186,75 @@ void take_gate(const Reading &reading, const toml::node &node)
     gate->report = report_of(reading, table);
 }
 
+/* How large a policy is, how deep its brackets nest, and how many dots a key has. */
+constexpr std::size_t MOST_BYTES = 64 << 10, MOST_DEEP = 8;
+constexpr int MOST_DOTS = 4;
+
+/* A text that is looked at before it is parsed. */
+class Look {
+  public:
+    Look(const char *file, const std::string &text) : file(file), text(text) {}
+
+    /* Ends with a line where brackets don't close each other, nest too deep, or a key has too many dots. */
+    void whole()
+    {
+        for (at = 0; at < text.size(); at++) {
+            char it = text[at];
+            if (it == '\n') line++;
+            if (it == '#') at = std::min(text.find('\n', at), text.size()) - 1;
+            else if (it == '"' || it == '\'') pass_text(it);
+            else if (it == '[' || it == '{') open(it);
+            else if (it == ']' || it == '}') close(it);
+            dots = it == '.' ? dots + 1 : std::strchr("\n=,[]{}", it) ? 0 : dots;
+            if (dots > MOST_DOTS) wrong("a key has too many dots");
+        }
+        if (!opened.empty()) wrong("a bracket is not closed");
+    }
+
+  private:
+    ENDS void wrong(const char *what) { refuse("%s:%u: %s", file, line, what); }
+
+    /* Goes to the end of a text, which stands on one line. */
+    void pass_text(char quote)
+    {
+        if (text.compare(at, 3, std::string(3, quote)) == 0) wrong("a text stands on one line");
+        for (at++; at < text.size() && text[at] != quote && text[at] != '\n'; at++)
+            if (text[at] == '\\' && quote == '"') at++;
+        if (at >= text.size() || text[at] != quote) wrong("a text is not closed");
+    }
+
+    void open(char bracket)
+    {
+        if (opened.size() == MOST_DEEP) wrong("brackets nest too deep");
+        opened += bracket == '[' ? ']' : '}';
+    }
+
+    void close(char bracket)
+    {
+        if (opened.empty() || opened.back() != bracket) wrong("brackets don't close each other");
+        opened.pop_back();
+    }
+
+    const char *file;
+    const std::string &text;
+    std::string opened; /* what has to close, the last first */
+    std::size_t at = 0;
+    unsigned line = 1;
+    int dots = 0;
+};
+
+std::string text_of_file(const char *path)
+{
+    std::ifstream file(path, std::ios::binary);
+    std::string text(MOST_BYTES + 1, 0);
+    if (!file) refuse("%s: %s", path, std::strerror(errno));
+    file.read(text.data(), static_cast<std::streamsize>(text.size()));
+    if (file.bad() || std::filesystem::is_directory(path)) refuse("%s: it can't be read", path);
+    text.resize(static_cast<std::size_t>(file.gcount()));
+    if (text.size() > MOST_BYTES) refuse("%s: a policy has at most %zu bytes", path, MOST_BYTES);
+    return text;
+}
+
 void take_all(const Reading &reading, const toml::table &policy)
 {
     has_only(reading, policy, {"categories", "read", "write", "public", "program", "gate"});
@@ -199,11 +274,13 @@ void take_all(const Reading &reading, const toml::table &policy)
 
 void read_policy(const char *path, struct plan *plan)
 {
+    const std::string text = text_of_file(path);
+    Look(path, text).whole();
     try {
-        take_all(Reading{path, plan}, toml::parse_file(path));
+        take_all(Reading{path, plan}, toml::parse(text, std::string_view(path)));
     } catch (const toml::parse_error &error) {
-        auto line = error.source().begin.line;
-        if (line) refuse("%s:%u: %s", path, static_cast<unsigned>(line), std::string(error.description()).c_str());
-        refuse("%s: %s", path, std::string(error.description()).c_str());
+        refuse("%s:%u: %s", path, static_cast<unsigned>(error.source().begin.line), std::string(error.description()).c_str());
+    } catch (const std::exception &) {
+        refuse("%s: it can't be read as a policy", path);
     }
 }

@@ -8,7 +8,9 @@
 #include <errno.h>
 #include <fcntl.h>
 #include <linux/openat2.h>
+#include <stdlib.h>
 #include <string.h>
+#include <sys/mman.h>
 #include <sys/stat.h>
 #include <sys/syscall.h>
 #include <unistd.h>
@@ -18,6 +20,7 @@ void find_reports(struct plan *plan)
     for (int i = 0; i < plan->report_count; i++) {
         struct report *report = &plan->reports[i];
         report->file = open(report->path, O_PATH | O_CLOEXEC | O_NOFOLLOW);
+        report->staged = -1;
         if (report->file < 0) fail(ENDS_FAULT, report->path);
     }
 }
@@ -46,26 +49,34 @@ static bool allow(int file, mode_t mode)
     return !chmod(link, mode);
 }
 
-void note_reports(const struct plan *plan, struct family *family)
+/* (The broker keeps what stands for a report at first, so that its number is given to no other file.) */
+bool note_reports(const struct plan *plan, struct family *family)
 {
-    for (int i = 0; i < plan->report_count; i++) {
-        struct stat found = {0};
-        int file = placed(family, &plan->reports[i]);
-        if (file < 0 || fstat(file, &found)) fail(ENDS_FAULT, plan->reports[i].path);
-        family->placed[i] = found.st_ino;
-        close(file);
-    }
+    for (int i = 0; i < plan->report_count; i++)
+        if ((family->world.placed[i] = placed(family, &plan->reports[i])) < 0) return false;
+    return true;
 }
 
 void begin_report(const struct plan *plan, struct family *family, int i, int flags)
 {
-    const struct report *report = &plan->reports[i];
-    struct stat found;
-    int file = placed(family, report), emptied;
-    if (file >= 0 && !fstat(file, &found) && found.st_ino == family->placed[i]) allow(file, 0600);
+    int file = placed(family, &plan->reports[i]);
+    if (is_same(file, family->world.placed[i])) allow(file, 0600);
     if (file >= 0) close(file);
-    if (!(flags & (O_APPEND | O_TRUNC))) family->replaces[i] = true;
-    if ((flags & O_TRUNC) && (emptied = reopen(report->file, O_WRONLY | O_TRUNC)) >= 0) close(emptied);
+    if (flags & O_TRUNC) family->empties[i] = true;
+    else if (!(flags & O_APPEND)) family->replaces[i] = true;
+}
+
+bool stage(struct report *report)
+{
+    if (report->staged < 0) report->staged = memfd_create("gate", MFD_CLOEXEC);
+    return report->staged >= 0;
+}
+
+int staged_of(const struct report *report)
+{
+    char link[64];
+    snprintf(link, sizeof link, "/proc/self/fd/%d", report->staged);
+    return open(link, O_WRONLY | O_APPEND | O_CLOEXEC);
 }
 
 static bool copy(int from, int to)
@@ -78,40 +89,78 @@ static bool copy(int from, int to)
     return !count;
 }
 
-/* Copies what stands for a report, which the kernel allows: after what is there, or in place of it. */
+/* Whether a report still has its name: what is written to one that has none is lost. */
+static bool is_there(const struct report *report)
+{
+    struct stat found;
+    errno = ENOENT;
+    return !fstat(report->file, &found) && found.st_nlink;
+}
+
+/* Copies a file into a report: after what is there, or in place of it. */
 static bool copy_out(const struct report *report, int file, bool replaces)
 {
-    int from = allow(file, 0600) ? reopen(file, O_RDONLY) : -1, to = reopen(report->file, O_WRONLY | (replaces ? O_TRUNC : O_APPEND));
-    bool is_copied = from >= 0 && to >= 0 && copy(from, to);
-    if (!is_copied) fprintf(stderr, "confine: %s: %s\n", report->path, strerror(errno));
+    int from = reopen(file, O_RDONLY), to = reopen(report->file, O_WRONLY | (replaces ? 0 : O_APPEND));
+    bool is_copied = from >= 0 && to >= 0 && is_there(report) && copy(from, to) && (!replaces || !ftruncate(to, lseek(to, 0, SEEK_CUR)));
     if (from >= 0) close(from);
     if (to >= 0) close(to);
     return is_copied;
 }
 
-static bool copy_report(struct plan *plan, struct family *family, int i, int file)
+/* What a program has left of a report, and what the kernel allowed of it, until all is laid. */
+struct left {
+    struct left *next;
+    int report, file;
+    bool replaces, is_told; /* whether a fault may be told */
+};
+
+static struct left *first, **last = &first;
+
+static void keep(const struct family *family, int report, int file, bool replaces)
 {
-    struct stat found;
-    bool is_new;
-    if (fstat(file, &found)) return false;
-    if (!S_ISREG(found.st_mode)) {
-        fprintf(stderr, "confine: %s: the program left no plain file there\n", plan->reports[i].path);
-        return false;
-    }
-    is_new = found.st_ino != family->placed[i];
-    if (!found.st_size && !is_new) return true;
-    if (!holds_report(plan, family, i)) return true;
-    return copy_out(&plan->reports[i], file, is_new || family->replaces[i]);
+    struct left *left = malloc(sizeof *left);
+    if (!left) fail(ENDS_FAULT, "a report");
+    *left = (struct left){NULL, report, file, replaces, family->prints};
+    *last = left;
+    last = &left->next;
 }
 
-bool copy_reports(struct plan *plan, struct family *family)
+/* Keeps what stands for a report. Whether it is of use. */
+static bool leave(struct plan *plan, struct family *family, int i, int file)
 {
-    bool are_copied = true;
+    struct stat found;
+    bool is_new = !is_same(file, family->world.placed[i]), is_plain = !fstat(file, &found) && S_ISREG(found.st_mode);
+    if (!is_new && is_plain && !found.st_size && !family->empties[i]) return false;
+    if (is_plain && !holds_report(plan, family, i)) return false;
+    keep(family, i, file, is_new || family->replaces[i] || family->empties[i]);
+    return true;
+}
+
+void leave_reports(struct plan *plan, struct family *family)
+{
     for (int i = 0; i < plan->report_count; i++) {
         int file = placed(family, &plan->reports[i]);
-        if (file < 0) continue;
-        if (!copy_report(plan, family, i, file)) are_copied = false;
-        close(file);
+        if (file >= 0 && !leave(plan, family, i, file)) close(file);
     }
-    return are_copied;
+}
+
+/* Lays what a program has left. Whether all of it is there. */
+static bool lay(const struct plan *plan, const struct left *left)
+{
+    const struct report *report = &plan->reports[left->report];
+    struct stat found;
+    bool is_plain = !fstat(left->file, &found) && S_ISREG(found.st_mode);
+    if (is_plain && allow(left->file, 0600) && copy_out(report, left->file, left->replaces)) return true;
+    if (!left->is_told) return true;
+    fprintf(stderr, "confine: %s: %s\n", report->path, is_plain ? strerror(errno) : "the program left no plain file there");
+    return false;
+}
+
+bool lay_reports(struct plan *plan)
+{
+    bool are_laid = true;
+    for (int i = 0; i < plan->report_count; i++)
+        if (plan->reports[i].staged >= 0 && !copy_out(&plan->reports[i], plan->reports[i].staged, false)) are_laid = false;
+    for (const struct left *it = first; it; it = it->next) are_laid = lay(plan, it) && are_laid;
+    return are_laid;
 }

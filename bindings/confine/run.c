@@ -6,6 +6,7 @@
 #include <stdlib.h>
 #include <string.h>
 #include <sys/socket.h>
+#include <time.h>
 #include <unistd.h>
 
 static const char USAGE[] =
@@ -50,11 +51,13 @@ static bool send_asked(int socket)
 int ask_run(int count, char **words)
 {
     char folder[PATH_MAX], number[16], told[256];
+    static const struct timespec A_WHILE = {0, 10000000};
     const char *line;
     ssize_t got;
     int socket;
     if (count < 4 || strcmp(words[2], "--")) return fputs(USAGE, stderr), ENDS_USAGE;
-    if ((socket = open(RUN, O_RDWR | O_CLOEXEC)) < 0) fail(ENDS_UNABLE, RUN);
+    while ((socket = open(RUN, O_RDWR | O_CLOEXEC)) < 0 && errno == EAGAIN) nanosleep(&A_WHILE, NULL);
+    if (socket < 0) fail(ENDS_UNABLE, RUN);
     snprintf(number, sizeof number, "%d", count - 3);
     add(strcmp(words[1], "none") ? words[1] : "");
     add(getcwd(folder, sizeof folder) ? folder : "/");

@@ -16,7 +16,12 @@
 /* How much the program may use: bytes of one file, bytes of memory of one process, and processes. Linux never gives the first
  * 300 process numbers twice. */
 enum { MOST_PROCESSES = 512, FIRST_NUMBERS = 300 };
-static const rlim_t MOST_FILE = (rlim_t)1 << 30, MOST_MEMORY = (rlim_t)8 << 30;
+static const rlim_t MOST_FILE = (rlim_t)1 << 30;
+#ifdef __SANITIZE_ADDRESS__ /* (a build with checks maps more at its start) */
+static const rlim_t MOST_MEMORY = RLIM_INFINITY;
+#else
+static const rlim_t MOST_MEMORY = (rlim_t)8 << 30;
+#endif
 
 enum {
     READS = LANDLOCK_ACCESS_FS_EXECUTE | LANDLOCK_ACCESS_FS_READ_FILE | LANDLOCK_ACCESS_FS_READ_DIR,

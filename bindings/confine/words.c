@@ -102,18 +102,27 @@ static void take_report(struct plan *plan, const struct words *words, const char
     if (words->category >= 0) report->levels.in[words->category] = 3;
 }
 
+static void take_passed(struct plan *plan, const char *name)
+{
+    if (!*name || strchr(name, '=')) refuse("--env: %s is no name", name);
+    if (plan->passed_count == MOST_PASSED) refuse("at most %d names of the environment", MOST_PASSED);
+    plan->passed[plan->passed_count++] = name;
+}
+
 static bool takes_value(struct plan *plan, struct words *words, const char *word, const char *value)
 {
-    static const char *const NAMES[] = {"--secret", "--report", "--public", "--audit", "--policy"};
+    static const char *const NAMES[] = {"--secret", "--report", "--public", "--audit", "--policy", "--env"};
+    const size_t count = sizeof NAMES / sizeof *NAMES;
     size_t at = 0;
-    while (at < 5 && strcmp(word, NAMES[at])) at++;
-    if (at == 5) return false;
+    while (at < count && strcmp(word, NAMES[at])) at++;
+    if (at == count) return false;
     if (!value || !strcmp(value, "--")) refuse("%s wants a value", word);
     if (at == 0) take_secret(plan, words, value);
     if (at == 1) take_report(plan, words, value);
     if (at == 2) add_open(plan, word, value);
     if (at == 3) plan->dump = value;
     if (at == 4) read_policy(value, plan);
+    if (at == 5) take_passed(plan, value);
     return true;
 }
 

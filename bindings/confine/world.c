@@ -12,11 +12,14 @@
 #include <errno.h>
 #include <fcntl.h>
 #include <linux/mount.h>
+#include <sched.h>
 #include <stdlib.h>
 #include <string.h>
 #include <sys/mount.h>
+#include <sys/sendfile.h>
 #include <sys/stat.h>
 #include <sys/syscall.h>
+#include <sys/sysmacros.h>
 #include <unistd.h>
 
 /* Where the world is put together, before it becomes the root, and where the program's own folders are until then. They go out of sight
@@ -44,6 +47,7 @@ static int report_trees[MOST_REPORTS]; /* each report that stands in a folder wh
 static int own[2 + MOST_REPORTS];      /* what the program may write: folders of its own, and reports that stand elsewhere */
 static int own_count;
 
+enum { MOST_COPIED = 1 << 24 };
 enum { READ_ONLY = MOUNT_ATTR_RDONLY | MOUNT_ATTR_NOSUID | MOUNT_ATTR_NODEV };
 
 /* What the machine has at a path as a mount of its own, with these attributes; -1 where it isn't there. */
@@ -108,10 +112,35 @@ static void put_tree(int tree, const char *path, bool is_folder)
 /* What is taken from the machine's own files, before they go out of sight. */
 struct taken {
     const char *path;
-    int tree;
+    int file; /* the folder or the file, by O_PATH or to be read; -1 where it is a device or a link */
+    int tree; /* a device */
     bool is_folder, is_link;
     char link[PATH_MAX];
 };
+
+/* Where the machine's root has made devices for this world alone. */
+#define DEVICES "/sys"
+
+void make_devices(void)
+{
+    static const struct { const char *name; unsigned number; } MADE[] = {{"null", 3}, {"zero", 5}, {"full", 7}, {"random", 8}, {"urandom", 9}};
+    if (getuid() || unshare(CLONE_NEWNS) || mount(NULL, "/", NULL, MS_REC | MS_PRIVATE, NULL)) return;
+    if (mount("confine", DEVICES, "tmpfs", MS_NOSUID | MS_NOEXEC, "size=64k,mode=755")) return;
+    for (size_t i = 0; i < sizeof MADE / sizeof *MADE; i++) {
+        char at[64];
+        snprintf(at, sizeof at, DEVICES "/%s", MADE[i].name);
+        if (!mknod(at, S_IFCHR | 0666, makedev(1, MADE[i].number)) && chmod(at, 0666)) unlink(at);
+    }
+}
+
+/* A device as a mount: the world's own, where the machine's root could make it, or the machine's. */
+static int device_of(const char *path)
+{
+    char at[64];
+    struct stat found;
+    snprintf(at, sizeof at, DEVICES "%s", strrchr(path, '/'));
+    return tree_of(!stat(at, &found) && S_ISCHR(found.st_mode) ? at : path, READ_ONLY & ~MOUNT_ATTR_NODEV);
+}
 
 /* One of those things that each program finds, as it stands: a link stays a link. What isn't there is passed over. */
 static bool find(struct taken *taken, const char *path)
@@ -120,7 +149,7 @@ static bool find(struct taken *taken, const char *path)
     ssize_t length;
     memset(taken, 0, sizeof *taken);
     taken->path = path;
-    taken->tree = -1;
+    taken->tree = taken->file = -1;
     if (lstat(path, &found)) return false;
     if (S_ISLNK(found.st_mode) && strncmp(path, "/etc/", 5)) {
         length = readlink(path, taken->link, sizeof taken->link - 1);
@@ -129,8 +158,24 @@ static bool find(struct taken *taken, const char *path)
     }
     if (stat(path, &found)) return false;
     taken->is_folder = S_ISDIR(found.st_mode);
-    taken->tree = tree_of(path, S_ISCHR(found.st_mode) ? READ_ONLY & ~MOUNT_ATTR_NODEV : READ_ONLY);
-    return taken->tree >= 0;
+    if (S_ISCHR(found.st_mode)) taken->tree = device_of(path);
+    else taken->file = open(path, (taken->is_folder ? O_PATH : O_RDONLY) | O_CLOEXEC);
+    return taken->tree >= 0 || taken->file >= 0;
+}
+
+/* A file is copied, so that its inode is the world's own. */
+static void put_copy(int file, const char *path)
+{
+    char at[PATH_MAX + sizeof BASE];
+    int made;
+    ssize_t count;
+    make_above(path);
+    snprintf(at, sizeof at, "%s%s", BASE, path);
+    NEEDS(made = open(at, O_CREAT | O_WRONLY | O_TRUNC | O_CLOEXEC, 0644));
+    while ((count = sendfile(made, file, NULL, MOST_COPIED)) > 0) {}
+    NEEDS(count);
+    close(made);
+    close(file);
 }
 
 static void put_link(const char *from, const char *to)
@@ -141,10 +186,24 @@ static void put_link(const char *from, const char *to)
     NEEDS(symlink(to, at));
 }
 
+/* What each program finds stands in a world as inodes of its own: a lock or a wait there is seen by no other world. (Where something is
+ * mounted in it, it is taken as it is.) */
 static void put(const struct taken *taken)
 {
-    if (taken->is_link) put_link(taken->path, taken->link);
-    else put_tree(taken->tree, taken->path, taken->is_folder);
+    char link[64];
+    int tree = taken->tree;
+    if (taken->is_link) {
+        put_link(taken->path, taken->link);
+        return;
+    }
+    if (tree < 0 && !taken->is_folder) {
+        put_copy(taken->file, taken->path);
+        return;
+    }
+    snprintf(link, sizeof link, "/proc/self/fd/%d", taken->file);
+    if (tree < 0 && (tree = overlay_of(taken->file)) < 0) NEEDS(tree = tree_of(link, READ_ONLY));
+    put_tree(tree, taken->path, taken->is_folder);
+    if (taken->file >= 0) close(taken->file);
 }
 
 /* Whether a path lies in a folder of the program's own. */
@@ -308,7 +367,7 @@ void make_world(const struct plan *plan)
     for (int i = 0; i < plan->secret_count; i++) secrets[i] = open_folder(plan->secrets[i].path);
     run = own_tree();
     open_doors(plan);
-    NEEDS(mount("confine", BASE, "tmpfs", MS_NOSUID | MS_NODEV, "size=1m,mode=755"));
+    NEEDS(mount("confine", BASE, "tmpfs", MS_NOSUID | MS_NODEV, "size=32m,mode=755"));
     make_own(plan);
     for (int i = 0; i < count; i++) put(&taken[i]);
     for (size_t i = 0; i < sizeof LINKS / sizeof *LINKS; i++) put_link(LINKS[i].from, LINKS[i].to);
