@@ -10,6 +10,8 @@ from concurrent.futures import ThreadPoolExecutor
 from gate import cases, unproved
 
 LIMIT = 60
+# How many requests of a run are refused side by side.
+AT_ONCE = 16
 # The names by which a program tells a fault, beside its own, by the verb that it is started with.
 NAMES = {("histar", it): f"histar {it}" for it in ("check", "try", "show")}
 
@@ -62,29 +64,26 @@ class Refused:
         is_told = out == b"" or (self.is_dialogue and run.out.startswith(out))
         return not run.is_again and (status, after) == (4, files) and err in self.lines and is_told
 
-    def tried(self, library):
+    def refused(self, library, number):
+        """Whether the run ends as it should with this request refused, how it ended, and whether there was one to refuse."""
         with tempfile.TemporaryDirectory(prefix="refused-") as folder:
             for run in self.before:
                 run.prepare(folder)
                 run.ended(folder)
-            files, number = self.run.prepare(folder), 0
-            while True:
+            files = self.run.prepare(folder)
+            told, was_refused = self.ended(library, number, folder)
+            return self.is_right(told, files), told, was_refused
+
+    def tried(self, library, pool):
+        """Refuses one request after another, some side by side, until a run meets none of a number."""
+        number = 0
+        while True:
+            for is_right, told, was_refused in pool.map(lambda it: self.refused(library, it), range(number + 1, number + 1 + AT_ONCE)):
                 number += 1
-                told, was_refused = self.ended(library, number, folder)
-                if not self.is_right(told, files):
+                if not is_right:
                     return False, f"{self.name()}: request {number} refused changes an answer: {told[:3]}"
                 if not was_refused:
                     return number > 1, f"{self.name()}: {number - 1} requests refused in turn"
-                restore(folder, files)
-
-
-def restore(folder, files):
-    """Leaves these files alone in a folder."""
-    for name in os.listdir(folder):
-        if name not in files:
-            os.remove(f"{folder}/{name}")
-    for name, content in files.items():
-        cases.write(f"{folder}/{name}", content)
 
 
 def marked(tree):
@@ -103,8 +102,8 @@ def refuse(report, tree):
     with tempfile.TemporaryDirectory(prefix="memory-") as room, ThreadPoolExecutor(os.cpu_count()) as pool:
         refusing, runs = library(room, "refuse"), list(marked(tree))
         report.counts(bool(runs), f"{len(runs)} runs of cases have their requests refused")
-        for is_well, text in pool.map(lambda it: it.tried(refusing), runs):
-            report.counts(is_well, text)
+        for it in runs:
+            report.counts(*it.tried(refusing, pool))
         give_back(report, tree, room)
 
 
