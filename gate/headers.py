@@ -5,7 +5,7 @@ import re
 # What is turned, and into what: the number of a call, a number or a label that is not written, an entry the wrong way round, and
 # a number of the answer that is taken from the next place.
 TURNS = (
-    (r"(HISTAR_CALL_\w+) = (\d+)", lambda it: f"{it[1]} = {int(it[2]) % 42 + 1}" if int(it[2]) < 43 else None),
+    (r"(HISTAR_CALL_\w+) = (\d+),", lambda it: f"{it[1]} = {int(it[2]) % 42 + 1}," if int(it[2]) < 43 else None),
     (r"k->request\.numbers\[\d\] = (?!at|change|most|keeps)\w+;", lambda it: ""),
     (r"k->request\.(?:label|clearance|verify) = \*(\w+);", lambda it: f"(void){it[1]};"),
     (r"(k->request\.other_\w+) = (\w+)\.container\.id;", lambda it: f"{it[1]} = {it[2]}.object.id;"),
