@@ -227,7 +227,7 @@ class Bindings:
         for source, *flags in (MISUSE, ("forgotten.c", "-pthread")):
             program = f"{self.room}/wrong/program"
             words = self.words_of([compiler, "-std=gnu11"], source, program, "-O2", *flags, "-w", f"-I{self.room}/wrong")
-            if run(*words)[0] and not run("timeout", "60", program)[0]:
+            if run(*words)[0] and not run("timeout", "240", program)[0]:
                 return True
         return False
 

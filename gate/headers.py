@@ -5,7 +5,7 @@ import re
 # What is turned, and into what: the number of a call, a number or a label that is not written, an entry the wrong way round, and
 # a number of the answer that is taken from the next place.
 TURNS = (
-    (r"(HISTAR_CALL_\w+) = (\d+)", lambda it: f"{it[1]} = {int(it[2]) % 42 + 1}" if int(it[2]) < 43 else None),
+    (r"(HISTAR_CALL_\w+) = (\d+),", lambda it: f"{it[1]} = {int(it[2]) % 42 + 1}," if int(it[2]) < 43 else None),
     (r"k->request\.numbers\[\d\] = (?!at|change|most|keeps)\w+;", lambda it: ""),
     (r"k->request\.(?:label|clearance|verify) = \*(\w+);", lambda it: f"(void){it[1]};"),
     (r"(k->request\.other_\w+) = (\w+)\.container\.id;", lambda it: f"{it[1]} = {it[2]}.object.id;"),
@@ -27,7 +27,11 @@ GUARDS = (
     ("\n                     || histar_is_on_signal_stack())", ")"),
     (" || __atomic_load_n(&k->caller, __ATOMIC_RELAXED) != histar_thread()\n", "\n"),
     ("\n        || stack <= __atomic_load_n(&k->below, __ATOMIC_RELAXED))", ")"),
-    ("    if (!histar_takes_turn(k, turn, it->turn)) {\n        it->k = NULL;\n        return HISTAR_UNAVAILABLE;\n    }\n", "    (void)histar_takes_turn(k, turn, it->turn);\n"),
+    ("    if (!histar_is_open(k) || !histar_takes_turn(k, turn, it->turn)) {\n        it->k = NULL;\n        return HISTAR_UNAVAILABLE;\n    }\n", "    (void)histar_takes_turn(k, turn, it->turn);\n"),
+    ("    if (!histar_is_open(k) || !histar_takes_turn(k, turn, it->turn)) {\n", "    if (!histar_takes_turn(k, turn, it->turn)) {\n"),
+    ("histar_is_open(k) || (is_left && !k->open_at)", "histar_is_open(k) || is_left"),
+    ("histar_is_open(k) || (is_left && !k->open_at)", "histar_is_open(k)"),
+    ("    histar_blocks_of(NULL); /* (a call that was left has not said so) */\n    for (", "    for ("),
     ("    if (histar_taken(k)) return HISTAR_BUSY;\n    if (histar_is_open(k)) return histar_released(k, HISTAR_BUSY);\n", "    (void)histar_taken(k);\n"),
     ("    else if (k->is_seat) histar_seat_end(k->room);\n    else histar_end(k->room);\n", "    else histar_end(k->room);\n"),
     ("    k->is_seat = k->takes_memory = k->is_text = 0;\n", "    k->takes_memory = k->is_text = 0;\n"),

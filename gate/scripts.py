@@ -97,7 +97,7 @@ class Writer:
             "meta_set": f"{self.any()} {self.bytes()}",
             "segment_resize": f"{self.entry('segment')} {self.below(4)}",
             "segment_write": f"{self.entry('segment')} {self.below(256)} {self.bytes()}",
-            "as_map": f"{self.entry('as')} {self.below(3)} {page} {self.entry('segment')} 0 {self.one_of(1, 2)} {self.one_of('r', 'w', 'rw', '-')}",
+            "as_map": f"{self.entry('as')} {self.below(3)} {page} {self.entry('segment')} {page % 2} {self.one_of(1, 2)} {self.one_of('r', 'w', 'rw', '-')}",
             "as_unmap": f"{self.entry('as')} {self.below(3)}",
             "store": f"{page * 256 + self.below(200)} {self.bytes()}",
             "gate_enter": f"{self.entry('gate')} {{c:*,d:*,1}} {{c:3,d:3,2}} {self.label('3', '3')}",

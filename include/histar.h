@@ -434,7 +434,7 @@ __attribute__((always_inline)) static inline uint32_t histar_taken(histar *k)
 static inline uint32_t histar_turn_after(uint32_t turn) { return (turn | HISTAR_TURN) + 1; }
 static inline uint32_t histar_released(histar *k, uint32_t refusal)
 {
-    __atomic_store_n(&k->turn, histar_turn_after(k->turn), __ATOMIC_RELEASE);
+    __atomic_store_n(&k->turn, histar_turn_after(__atomic_load_n(&k->turn, __ATOMIC_RELAXED)), __ATOMIC_RELEASE);
     return refusal;
 }
 static inline int histar_is_open(const histar *k)
@@ -444,12 +444,13 @@ static inline int histar_is_open(const histar *k)
 /* It was opened by a process of which this one is a child, or that is a child of this one. */
 static inline int histar_is_of_another_process(const histar *k)
 {
-    return __atomic_load_n(&k->open_at, __ATOMIC_RELAXED) && k->process != *histar_process;
+    return __atomic_load_n(&k->open_at, __ATOMIC_ACQUIRE) && __atomic_load_n(&k->process, __ATOMIC_RELAXED) != *histar_process;
 }
 static inline void histar_stands_open(histar *k)
 {
-    k->process = *histar_process;
-    __atomic_store_n(&k->open_at, (uintptr_t)k ^ (uintptr_t)k->process, __ATOMIC_RELAXED);
+    uint64_t process = *histar_process;
+    __atomic_store_n(&k->process, process, __ATOMIC_RELAXED);
+    __atomic_store_n(&k->open_at, (uintptr_t)k ^ (uintptr_t)process, __ATOMIC_RELEASE);
 }
 
 /* Whether readers of a seat are open, so that it stays as it is. */
@@ -491,7 +492,7 @@ __attribute__((nonnull, noinline, unused)) static uint32_t histar_closes(histar 
     if (histar_is_of_another_process(k)) return HISTAR_UNAVAILABLE;
     if (!histar_is_open(k) && !histar_how(__atomic_load_n(&k->turn, __ATOMIC_RELAXED))) return HISTAR_DONE;
     if (histar_taken(k) && histar_taken_to_close(k, stack, &is_left)) return HISTAR_BUSY;
-    if (is_left || histar_is_open(k)) {
+    if (histar_is_open(k) || (is_left && !k->open_at)) { /* (an open may have been left; a copy of what was left has nothing of its own) */
         if (histar_is_read(k)) return histar_released(k, HISTAR_BUSY);
         histar_ends(k, is_left);
         __atomic_store_n(&k->open_at, 0, __ATOMIC_RELAXED);
@@ -524,6 +525,7 @@ static inline uint32_t histar_begins(histar *k)
     if (!histar_process_begins() || histar_is_of_another_process(k)) return HISTAR_UNAVAILABLE;
     if (histar_taken(k)) return HISTAR_BUSY;
     if (histar_is_open(k)) return histar_released(k, HISTAR_BUSY);
+    histar_blocks_of(NULL); /* (a call that was left has not said so) */
     memset(&k->request, 0, sizeof k->request);
     memset(&k->answer, 0, sizeof k->answer);
     k->is_seat = k->takes_memory = k->is_text = 0;
@@ -716,6 +718,7 @@ static inline uint32_t histar_serves(histar *k)
     if (k->of) return histar_reader_call(k->room, &k->request, &k->answer);
     if (k->takes_memory) return histar_serves_with_memory(k);
     if (!k->is_seat) return histar_call(k->room, &k->request, &k->answer);
+    histar_blocks_of(NULL); /* (a call that was left has not said so) */
     for (tries = 0; (refusal = histar_seat_call(k->room, &k->request, &k->answer)) == HISTAR_BUSY && tries < 400; tries++)
         if (tries >= 200) histar_waits();
         else if (tries >= 100) sched_yield();
@@ -1446,7 +1449,8 @@ static inline uint32_t histar_log_cut(histar *k, uint64_t most, uint64_t keeps)
 /* Where a text goes: a function of the caller's, which is given the text in parts of 1 to 4,096 bytes, one after another, each of them for
  * the length of the call. It answers 0 to go on. Any other answer ends the text. It should return. Where it does not, this call alone is lost:
  * an exception and the end of its thread give the kernel back, in C where it is compiled with -fexceptions. After a jump, a call by what
- * stands above the text's call on the stack goes on. Any other is refused HISTAR_BUSY, until a close. */
+ * stands above the text's call on the stack goes on. Any other is refused HISTAR_BUSY, until a close. A close meanwhile, or a fork in the child,
+ * ends the text HISTAR_UNAVAILABLE: the part is wiped by the close, and the histar itself stands until the text's call returned. */
 typedef uint32_t (*histar_put)(void *context, const void *part, size_t len);
 
 /* Room that a text is written into, and how much of it is left. */
@@ -1472,7 +1476,8 @@ typedef struct {
     void *context;
 } histar_stream;
 
-/* Gives a part. The kernel is not this call's any more where it was closed meanwhile, or taken after a jump. */
+/* Gives a part. The kernel is not this call's any more where it was closed meanwhile, or taken after a jump, nor in a child that was forked
+ * meanwhile. */
 __attribute__((noinline, unused)) static uint32_t histar_gives_part(histar_stream *it, size_t len)
 {
     histar *k = it->k;
@@ -1481,7 +1486,7 @@ __attribute__((noinline, unused)) static uint32_t histar_gives_part(histar_strea
     __atomic_store_n(&k->below, histar_stack(), __ATOMIC_RELAXED);
     __atomic_store_n(&k->turn, turn, __ATOMIC_RELEASE);
     refusal = it->put(it->context, k->part, len);
-    if (!histar_takes_turn(k, turn, it->turn)) {
+    if (!histar_is_open(k) || !histar_takes_turn(k, turn, it->turn)) {
         it->k = NULL;
         return HISTAR_UNAVAILABLE;
     }
@@ -1527,7 +1532,7 @@ static inline histar_stream histar_text(histar *k, uint32_t call, histar_put put
 {
     histar_stream it;
     it.k = k;
-    it.turn = k->turn & ~(uint32_t)HISTAR_TURN;
+    it.turn = __atomic_load_n(&k->turn, __ATOMIC_RELAXED) & ~(uint32_t)HISTAR_TURN;
     it.call = call;
     it.put = put;
     it.context = context;
@@ -1537,7 +1542,7 @@ static inline histar_stream histar_text(histar *k, uint32_t call, histar_put put
 static inline void histar_text_ends(histar_stream *it)
 {
     histar *k = it->k;
-    if (!k) return;
+    if (!k || !histar_is_open(k)) return;
     if (__atomic_load_n(&k->turn, __ATOMIC_RELAXED) != (it->turn | HISTAR_IS_CALLED) && !histar_takes_turn(k, it->turn | HISTAR_IS_GIVING, it->turn)) return;
     histar_drops_text(k);
     (void)histar_told(k, HISTAR_DONE);

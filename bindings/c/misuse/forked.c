@@ -108,6 +108,25 @@ static uint32_t forked_in_a_call(void)
     return refusal;
 }
 
+/* The text that the function was given goes on in the parent, and in the child no more. */
+static pid_t from_a_text;
+static uint32_t forks_once(void *context, const void *part, size_t len)
+{
+    (void)context, (void)part, (void)len;
+    if (from_a_text < 0) from_a_text = fork();
+    return 0;
+}
+static uint32_t dumped_on_after_a_fork(void)
+{
+    uint32_t told;
+    from_a_text = -1;
+    told = histar_dump_to(&k, forks_once, NULL);
+    if (!from_a_text) _exit((int)told);
+    must(told);
+    must(from_a_text < 0);
+    return in_child(from_a_text, NULL);
+}
+
 const struct row FORKED[] = {
     {"a call in a child", HISTAR_UNAVAILABLE, called},
     {"a read in a child", HISTAR_UNAVAILABLE, read_there},
@@ -121,6 +140,7 @@ const struct row FORKED[] = {
     {"a reader of a seat of the parent's", HISTAR_UNAVAILABLE, reader_opened},
     {"a kernel that a child opens", HISTAR_DONE, own_kernel},
     {"a call in a child that was forked in a call", HISTAR_UNAVAILABLE, forked_in_a_call},
+    {"a dump that goes on in a child", HISTAR_UNAVAILABLE, dumped_on_after_a_fork},
     {"a call in a child in shared memory", HISTAR_UNAVAILABLE, called_in_shared_memory},
     {"a close in a child in shared memory", HISTAR_UNAVAILABLE, closed_in_shared_memory},
     {"an open in a child in shared memory", HISTAR_UNAVAILABLE, opened_in_shared_memory},

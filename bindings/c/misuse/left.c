@@ -222,6 +222,26 @@ static uint32_t closed_after_a_jump_out_of_a_read(void)
     return refusal;
 }
 
+/* A copy of what a call left is closed, and takes nothing of it. */
+static uint32_t copy_closed_after_a_jump(void)
+{
+    struct itimerval often = {{0, 50}, {0, 50}}, never_again = {{0, 0}, {0, 0}};
+    histar_self self;
+    uint32_t refusal;
+    must(histar_open(&its, 8));
+    signal(SIGALRM, jumps_out);
+    setitimer(ITIMER_REAL, &often, NULL);
+    if (!sigsetjmp(out, 1))
+        for (;;) must(histar_self_get(&its, HISTAR_BOOT, &self));
+    setitimer(ITIMER_REAL, &never_again, NULL);
+    memcpy(&other, &its, sizeof its);
+    refusal = histar_close(&other);
+    must(histar_close(&its));
+    opens_its();
+    must(histar_close(&its));
+    return refusal;
+}
+
 /* After each instruction of the program's own and the library's, and of no other: at the one with the number `left_at` the call is left. */
 static void steps_on(int signal, siginfo_t *about, void *context)
 {
@@ -243,7 +263,18 @@ static void stepwise(int is_so)
     else __asm__ __volatile__("pushfq\n\tandq $~0x100, (%%rsp)\n\tpopfq" : : : "memory", "cc");
 }
 static uint32_t (*asked)(void);
+/* (the list of a seat takes memory for a label) */
+static void writes_a_label(histar *kernel)
+{
+    histar_label label = histar_with(histar_level(1), histar_category_of(1), 2);
+    (void)!histar_segment_create(kernel, HISTAR_BOOT, HISTAR_ROOT, &label, 2, 1, NULL);
+}
 static uint32_t writes(void) { return histar_cat_create(&its, HISTAR_BOOT, NULL); }
+static uint32_t closes_and_opens_anew(void)
+{
+    (void)!histar_close(&its);
+    return histar_open(&its, 8);
+}
 static uint32_t dumps(void)
 {
     wrote_len = 0;
@@ -263,9 +294,11 @@ void __wrap_free(void *old)
     __atomic_fetch_sub(&blocks, old != NULL, __ATOMIC_RELAXED);
     __real_free(old);
 }
+static int beside_a_seat; /* which is called before the close and after it */
 static void *is_left(void *is_logged)
 {
     long before = blocks;
+    if (beside_a_seat) must(histar_share(&other, 8, 9));
     must(histar_open(&its, 8));
     if (is_logged) must(histar_log_on(&its, UINT64_MAX, HISTAR_LOG_ALL));
     must(is_called(&its));
@@ -276,7 +309,12 @@ static void *is_left(void *is_logged)
         stepwise(0);
         left_at = 0;
     }
+    if (beside_a_seat) writes_a_label(&other);
     told = histar_close(&its);
+    if (beside_a_seat) {
+        writes_a_label(&other);
+        must(histar_close(&other));
+    }
     stays = blocks - before;
     return NULL;
 }
@@ -306,6 +344,15 @@ static uint32_t left(uint32_t (*asks)(void), int is_logged, long times)
 #endif
 static uint32_t left_in_a_write(void) { return left(writes, 0, TIMES); }
 static uint32_t left_in_a_logged_write(void) { return left(writes, 1, TIMES); }
+static uint32_t left_beside_a_seat(void)
+{
+    uint32_t refusal;
+    beside_a_seat = 1;
+    refusal = left(writes, 1, TIMES / 4 + 1);
+    beside_a_seat = 0;
+    return refusal;
+}
+static uint32_t left_in_an_open(void) { return left(closes_and_opens_anew, 1, 4); }
 static uint32_t left_in_a_dump(void) { return left(dumps, 1, TIMES / 20 + 1); }
 
 /* A call of another thread that goes on is left by nobody. */
@@ -570,6 +617,9 @@ const struct row LEFT[] = {
     {"a close after a jump out of any step of a write", HISTAR_DONE, left_in_a_write},
     {"a close after a jump out of any step of a logged write", HISTAR_DONE, left_in_a_logged_write},
     {"a close after a jump out of any step of a dump", HISTAR_DONE, left_in_a_dump},
+    {"a close after a jump out of any step of a close and an open", HISTAR_DONE, left_in_an_open},
+    {"calls by a seat after a jump out of any step of a logged write", HISTAR_DONE, left_beside_a_seat},
+    {"a close of a copy after a jump out of a call", HISTAR_DONE, copy_closed_after_a_jump},
     {"a close in the call of another thread", HISTAR_BUSY, closed_in_another_threads_call},
     {"a logged call by a handler that interrupts the heap", HISTAR_MEMORY, logged_by_a_handler},
     {"a close by a handler on a stack above", HISTAR_BUSY, closed_by_a_handler_above},
