@@ -44,7 +44,7 @@ class Liar:
     """It puts first entries of several lanes by one transaction, ends others' incarnations, and keeps the log by a fence without a lease."""
 
     def __init__(self, faults, seed):
-        self.faults, self.random, self.count = faults, random.Random(seed), 0
+        self.faults, self.random, self.count, self.place = faults, random.Random(seed), 0, 0
         self.is_over = threading.Event()
         self.thread = threading.Thread(target=self.lie_on, daemon=True)
 
@@ -70,8 +70,9 @@ class Liar:
 
     def puts_entries(self):
         revision = self.revision()
-        if revision == 0:
-            return
+        if revision <= self.place:
+            return  # (a transaction that arrives late would change what another has put)
+        self.place = revision
         place = spelled(revision)
         pairs = [(f"/faults/log/e/evil/{place}.{spelled(lane)}/01", "x" * self.random.randrange(1, 300)) for lane in range(self.random.randrange(1, 5))]
         self.random.shuffle(pairs)
