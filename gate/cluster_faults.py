@@ -82,7 +82,7 @@ class Faults:
 
     def following(self):
         """Who keeps the log, once it does."""
-        words = [*self.hosts.on("hub"), f"{self.programs}/examples/caller", "check", "faults", ",".join(self.members), ",".join(self.threads), f"{self.folder}/whole"]
+        words = [*self.hosts.on("hub"), f"{self.programs}/examples/caller", "check", "faults", ",".join(self.members), f"{self.folder}/whole"]
         started = subprocess.Popen(words, env=self.environment("root"), stdin=subprocess.PIPE, stdout=subprocess.PIPE, stderr=subprocess.STDOUT, text=True)
         started.stdout.readline()
         return started
@@ -204,7 +204,8 @@ class Faults:
         return self.node(1, 5).wait() != 0
 
     def check(self, following):
-        said = following.communicate("".join(f"{it}\n" for it in sorted(glob.glob(f"{self.folder}/calls-*"))))[0]
+        files = [f"{self.threads[it]} {file}\n" for it in range(3) for file in sorted(glob.glob(f"{self.folder}/calls-{it}.*"))]
+        said = following.communicate("".join(files))[0]
         status = following.returncode
         for what in ("status", "audit"):
             done, told = self.operator(what)
