@@ -3,7 +3,6 @@ killed, paused or cut off; a member is replaced by one that has nothing; the log
 roles of docs/CLUSTER.md, and a fourth node lies within its role (gate/liar.py). The log is kept as it is put: each call that was answered is there
 once with that answer, and none that was told never to be made; and histar-audit finds clean the whole log, and what is left of it. Alone: python3 -m gate.cluster_faults FOLDER SECONDS SEED [AUDITOR]"""
 import glob
-import json
 import os
 import random
 import shutil
@@ -13,7 +12,7 @@ import sys
 import time
 
 from gate.hosts import hosts_for
-from gate.liar import Liar, certify, give_roles
+from gate.liar import Liar, answered, certify, give_roles
 
 CRATE = "bindings/rust/histar-etcd"
 BASE = 23790
@@ -89,8 +88,8 @@ class Faults:
 
     def revision(self):
         """The engine's revision; 0 where no member says it."""
-        status, said = self.call("etcdctl", "--endpoints", ",".join(self.members), "get", "/faults/boot", "-w", "json")
-        return json.loads(said)["header"]["revision"] if status == 0 else 0
+        told = answered(*self.call("etcdctl", "--endpoints", ",".join(self.members), "get", "/faults/boot", "-w", "json"))
+        return told.get("header", {}).get("revision", 0)
 
     def is_dropped(self, revision):
         """Whether the log was dropped beyond a revision: what was there then is forgotten."""

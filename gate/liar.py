@@ -40,6 +40,12 @@ def spelled(number):
     return f"{len(digits) - 1:x}{digits}"
 
 
+def answered(status, said):
+    """What etcd answered a command of etcdctl; nothing where it did not. (etcdctl writes warnings of its own as such lines, too)"""
+    documents = [json.loads(line) for line in said.splitlines() if status == 0 and line.startswith("{")]
+    return next((it for it in documents if "header" in it), {})
+
+
 class Liar:
     """It puts first entries of several lanes by one transaction, ends others' incarnations, and keeps the log by a fence without a lease."""
 
@@ -79,10 +85,7 @@ class Liar:
         self.transaction(pairs)
 
     def read(self, *words):
-        """What etcd answers; nothing where it doesn't."""
-        status, said = self.call("get", *words, "-w", "json")
-        documents = [line for line in said.splitlines() if status == 0 and line.startswith("{")]
-        return json.loads(documents[0]) if documents else {}
+        return answered(*self.call("get", *words, "-w", "json"))
 
     def ends_another(self):
         fences = self.read("/faults/fence/", "--prefix").get("kvs", [])
