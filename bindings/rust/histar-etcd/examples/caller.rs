@@ -201,7 +201,7 @@ fn run(words: &[String]) {
 type Pairs = BTreeMap<(u64, Vec<u8>), Pair>;
 
 /// A member that reports nothing for so long is left for the next one.
-const SILENCE: Duration = Duration::from_millis(700);
+const SILENCE: Duration = Duration::from_secs(1);
 
 /// Whoever keeps a log. It follows the log by a watch, which has what was put and dropped between two looks too.
 struct Kept {
