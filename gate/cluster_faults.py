@@ -135,15 +135,16 @@ class Faults:
         """Another member takes the place of one that is gone with its disk."""
         at = ["--endpoints", ",".join(self.members[:it] + self.members[it + 1 :]), "member"]
         gone = next(line for line in self.called("etcdctl", *at, "list").splitlines() if self.peers[it] in line)
-        self.called("etcdctl", *at, "remove", gone.split(",")[0])
-        self.called("etcdctl", *at, "add", f"m{it}", "--peer-urls", self.peers[it])
+        self.called("etcdctl", *at, "remove", gone.split(",")[0], done="member not found")
+        self.called("etcdctl", *at, "add", f"m{it}", "--peer-urls", self.peers[it], done="Peer URLs already exists")
         shutil.rmtree(f"{self.folder}/m{it}")
 
-    def called(self, *words):
-        """What a command said, which is tried until it ends well, for half a minute: a cluster that chooses a leader answers none."""
+    def called(self, *words, done=None):
+        """What a command said, which is tried until it ends well, for half a minute: a cluster that chooses a leader answers none, and one that did
+        what was asked without an answer says so the next time."""
         for _ in range(30):
             status, said = self.call(*words)
-            if status == 0:
+            if status == 0 or (done and done in said):
                 return said
             time.sleep(1)
         raise RuntimeError(f"{' '.join(words)}: {said}")
