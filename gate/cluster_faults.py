@@ -3,7 +3,6 @@ killed, paused or cut off; a member is replaced by one that has nothing; the log
 roles of docs/CLUSTER.md, and a fourth node lies within its role (gate/liar.py). The log is kept as it is put: each call that was answered is there
 once with that answer, and none that was told never to be made; and histar-audit finds clean the whole log, and what is left of it. Alone: python3 -m gate.cluster_faults FOLDER SECONDS SEED [AUDITOR]"""
 import glob
-import json
 import os
 import random
 import shutil
@@ -13,7 +12,7 @@ import sys
 import time
 
 from gate.hosts import hosts_for
-from gate.liar import Liar, certify, give_roles
+from gate.liar import Liar, answered, certify, give_roles
 
 CRATE = "bindings/rust/histar-etcd"
 BASE = 23790
@@ -82,15 +81,15 @@ class Faults:
 
     def following(self):
         """Who keeps the log, once it does."""
-        words = [*self.hosts.on("hub"), f"{self.programs}/examples/caller", "check", "faults", ",".join(self.members), ",".join(self.threads), f"{self.folder}/whole"]
+        words = [*self.hosts.on("hub"), f"{self.programs}/examples/caller", "check", "faults", ",".join(self.members), f"{self.folder}/whole"]
         started = subprocess.Popen(words, env=self.environment("root"), stdin=subprocess.PIPE, stdout=subprocess.PIPE, stderr=subprocess.STDOUT, text=True)
         started.stdout.readline()
         return started
 
     def revision(self):
         """The engine's revision; 0 where no member says it."""
-        status, said = self.call("etcdctl", "--endpoints", ",".join(self.members), "get", "/faults/boot", "-w", "json")
-        return json.loads(said)["header"]["revision"] if status == 0 else 0
+        told = answered(*self.call("etcdctl", "--endpoints", ",".join(self.members), "get", "/faults/boot", "-w", "json"))
+        return told.get("header", {}).get("revision", 0)
 
     def is_dropped(self, revision):
         """Whether the log was dropped beyond a revision: what was there then is forgotten."""
@@ -136,15 +135,16 @@ class Faults:
         """Another member takes the place of one that is gone with its disk."""
         at = ["--endpoints", ",".join(self.members[:it] + self.members[it + 1 :]), "member"]
         gone = next(line for line in self.called("etcdctl", *at, "list").splitlines() if self.peers[it] in line)
-        self.called("etcdctl", *at, "remove", gone.split(",")[0])
-        self.called("etcdctl", *at, "add", f"m{it}", "--peer-urls", self.peers[it])
+        self.called("etcdctl", *at, "remove", gone.split(",")[0], done="member not found")
+        self.called("etcdctl", *at, "add", f"m{it}", "--peer-urls", self.peers[it], done="Peer URLs already exists")
         shutil.rmtree(f"{self.folder}/m{it}")
 
-    def called(self, *words):
-        """What a command said, which is tried until it ends well, for half a minute: a cluster that chooses a leader answers none."""
+    def called(self, *words, done=None):
+        """What a command said, which is tried until it ends well, for half a minute: a cluster that chooses a leader answers none, and one that did
+        what was asked without an answer says so the next time."""
         for _ in range(30):
             status, said = self.call(*words)
-            if status == 0:
+            if status == 0 or (done and done in said):
                 return said
             time.sleep(1)
         raise RuntimeError(f"{' '.join(words)}: {said}")
@@ -204,7 +204,8 @@ class Faults:
         return self.node(1, 5).wait() != 0
 
     def check(self, following):
-        said = following.communicate("".join(f"{it}\n" for it in sorted(glob.glob(f"{self.folder}/calls-*"))))[0]
+        files = [f"{self.threads[it]} {file}\n" for it in range(3) for file in sorted(glob.glob(f"{self.folder}/calls-{it}.*"))]
+        said = following.communicate("".join(files))[0]
         status = following.returncode
         for what in ("status", "audit"):
             done, told = self.operator(what)

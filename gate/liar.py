@@ -40,11 +40,17 @@ def spelled(number):
     return f"{len(digits) - 1:x}{digits}"
 
 
+def answered(status, said):
+    """What etcd answered a command of etcdctl; nothing where it did not. (etcdctl writes warnings of its own as such lines, too)"""
+    documents = [json.loads(line) for line in said.splitlines() if status == 0 and line.startswith("{")]
+    return next((it for it in documents if "header" in it), {})
+
+
 class Liar:
     """It puts first entries of several lanes by one transaction, ends others' incarnations, and keeps the log by a fence without a lease."""
 
     def __init__(self, faults, seed):
-        self.faults, self.random, self.count = faults, random.Random(seed), 0
+        self.faults, self.random, self.count, self.place = faults, random.Random(seed), 0, 0
         self.is_over = threading.Event()
         self.thread = threading.Thread(target=self.lie_on, daemon=True)
 
@@ -70,18 +76,16 @@ class Liar:
 
     def puts_entries(self):
         revision = self.revision()
-        if revision == 0:
-            return
+        if revision <= self.place:
+            return  # (a transaction that arrives late would change what another has put)
+        self.place = revision
         place = spelled(revision)
         pairs = [(f"/faults/log/e/evil/{place}.{spelled(lane)}/01", "x" * self.random.randrange(1, 300)) for lane in range(self.random.randrange(1, 5))]
         self.random.shuffle(pairs)
         self.transaction(pairs)
 
     def read(self, *words):
-        """What etcd answers; nothing where it doesn't."""
-        status, said = self.call("get", *words, "-w", "json")
-        documents = [line for line in said.splitlines() if status == 0 and line.startswith("{")]
-        return json.loads(documents[0]) if documents else {}
+        return answered(*self.call("get", *words, "-w", "json"))
 
     def ends_another(self):
         fences = self.read("/faults/fence/", "--prefix").get("kvs", [])

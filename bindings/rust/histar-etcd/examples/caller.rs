@@ -3,8 +3,8 @@
 //!
 //! `caller prepare CLUSTER MEMBERS NODE..` is the first node, which begins the cluster if nobody has, and prints a thread for each, which belongs to it.
 //! `caller run CLUSTER MEMBERS NODE THREAD FILE CALLERS SECONDS` writes a line into FILE before each call and one after it.
-//! `caller check CLUSTER MEMBERS THREADS DUMP` keeps what is put into the log, of which the nodes drop nothing before. Once it is told the names
-//! of the files, a line each, it plays the whole log, says what of the files it does not have, and writes it into DUMP.
+//! `caller check CLUSTER MEMBERS DUMP` keeps what is put into the log, of which the nodes drop nothing before. Once it is told THREAD FILE of each
+//! file, a line each, it plays the whole log, says what of the files it does not have, and writes it into DUMP.
 #[path = "../src/grpc.rs"]
 #[allow(dead_code)]
 mod grpc;
@@ -24,9 +24,9 @@ use std::fs::File;
 use std::io::Write;
 use std::sync::atomic::{AtomicU64, Ordering};
 use std::sync::mpsc::{channel, RecvTimeoutError};
-use std::sync::Arc;
+use std::sync::{Arc, Mutex, MutexGuard};
 use std::time::{Duration, Instant, SystemTime, UNIX_EPOCH};
-use wire::{Done, PutRequest};
+use wire::{Done, KeyValue, PutRequest, WatchCreate, WatchRequest, WatchResponse};
 
 /// A kernel that knows what each record was answered.
 struct Probe {
@@ -165,8 +165,8 @@ fn run(words: &[String]) {
     let out = Arc::new(File::options().create(true).append(true).open(file).expect("a file"));
     let end = Instant::now() + Duration::from_secs(number(seconds));
     let start = SystemTime::now().duration_since(UNIX_EPOCH).expect("a time after 1970").as_millis() as u64;
-    // (nodes that start at once have other numbers)
-    let calls = Arc::new(AtomicU64::new(start << 24 | (thread % 16) << 20));
+    // (other starts of the node have other numbers)
+    let calls = Arc::new(AtomicU64::new(start << 20));
     let writes = |out: &File, line: &str| {
         let mut out = out;
         out.write_all(line.as_bytes()).expect("a file that can be written");
@@ -197,31 +197,93 @@ fn run(words: &[String]) {
     std::process::exit(i32::from(running.fault().is_some()));
 }
 
-/// The keys of a log, by their places, also those that were dropped meanwhile.
+/// The keys of a log, by their places, also those that were dropped meanwhile: as they were put first.
+type Pairs = BTreeMap<(u64, Vec<u8>), Pair>;
+
+/// A member that reports nothing for so long is left for the next one.
+const SILENCE: Duration = Duration::from_secs(1);
+
+/// Whoever keeps a log. It follows the log by a watch, which has what was put and dropped between two looks too.
 struct Kept {
     cluster: String,
     etcd: Etcd,
-    pairs: BTreeMap<(u64, Vec<u8>), Pair>,
+    pairs: Mutex<Pairs>,
+    // The revision up to which all was reported.
+    reached: AtomicU64,
 }
 
 impl Kept {
-    /// Keeps what was put, and tells the nodes so, as a node tells how far it has played: they drop nothing else, up to four
-    /// marks back.
-    fn look(&mut self) -> bool {
+    fn pairs(&self) -> MutexGuard<'_, Pairs> {
+        self.pairs.lock().expect("nobody panics")
+    }
+
+    /// Follows the log for good. Where it was dropped first, nothing can be told of it.
+    fn follow(&self) {
+        let runtime = tokio::runtime::Builder::new_current_thread().enable_all().build().expect("a runtime");
+        for member in self.etcd.members.iter().cycle() {
+            if let Ok(revision) = runtime.block_on(self.follow_at(member)) {
+                println!("FAULT whoever checks is too slow: the log up to {revision} was dropped before it was kept");
+                std::process::exit(1);
+            }
+        }
+    }
+
+    /// Follows the log at a member, up to a revision that was forgotten.
+    async fn follow_at(&self, member: &str) -> Result<i64, Fault> {
         let (from, to) = range(&name(&self.cluster));
-        let Ok(pairs) = self.etcd.keys(&from, &to) else { return false };
-        let is_of_log = |pair: &Pair| {
-            ["boot", "log/e/", "log/c/"].iter().any(|it| pair.key[from.len()..].starts_with(it.as_bytes()))
+        let after = self.reached.load(Ordering::Relaxed) as i64;
+        let create =
+            WatchCreate { key: from.into(), range_end: to.into(), start_revision: after + 1, filters: vec![1] };
+        let question = WatchRequest { create: Some(create) };
+        let channel = tokio::time::timeout(SILENCE, Channel::connect(member, self.etcd.tls.clone())).await??;
+        let mut stream =
+            tokio::time::timeout(SILENCE, channel.stream("/etcdserverpb.Watch/Watch", &question)).await??;
+        loop {
+            let told: WatchResponse = tokio::time::timeout(SILENCE, stream.next()).await??;
+            if told.compact_revision > 0 {
+                return Ok(told.compact_revision);
+            }
+            if told.canceled {
+                return Err(Fault::Lost("a watch has ended".into()));
+            }
+            told.events.into_iter().filter_map(|event| event.kv).for_each(|kv| self.takes(kv));
+        }
+    }
+
+    fn takes(&self, kv: KeyValue) {
+        let (from, _) = range(&name(&self.cluster));
+        let is_of_log = ["boot", "log/e/", "log/c/"].iter().any(|it| kv.key[from.len()..].starts_with(it.as_bytes()));
+        if is_of_log && kv.version == 1 {
+            let pair = Pair { key: kv.key.to_vec(), value: kv.value.to_vec(), created: kv.create_revision as u64 };
+            self.pairs().insert((pair.created, pair.key.clone()), pair);
+        }
+        self.reached.store(kv.mod_revision as u64, Ordering::Relaxed);
+    }
+
+    /// Tells the nodes how far it is, as a node tells how far it has played: they drop nothing else, up to four marks back.
+    fn tell(&self) -> bool {
+        let place = self.reached.load(Ordering::Relaxed);
+        place > 0 && self.etcd.members.iter().any(|member| put_fence(member, &self.etcd, &self.cluster, place).is_ok())
+    }
+
+    /// Waits until all is kept that is there by now.
+    fn catch_up(&self) {
+        let (from, to) = range(&name(&self.cluster));
+        let last = loop {
+            if let Ok(pairs) = self.etcd.keys(&from, &to) {
+                break pairs.iter().map(|pair| pair.created).max().unwrap_or(0);
+            }
         };
-        self.pairs.extend(pairs.into_iter().filter(is_of_log).map(|pair| ((pair.created, pair.key.clone()), pair)));
-        let place = self.pairs.last_key_value().map_or(0, |((place, _), _)| *place);
-        self.etcd.members.iter().any(|member| put_fence(member, &self.etcd, &self.cluster, place).is_ok())
+        while self.reached.load(Ordering::Relaxed) < last {
+            std::thread::sleep(Duration::from_millis(50));
+        }
     }
 
     /// An engine with these keys alone.
     fn engine(&self) -> Memory {
         let memory = Memory::new();
-        let mut pairs = self.pairs.values().peekable();
+        let kept = self.pairs();
+        let mut pairs = kept.values().peekable();
         while let Some(pair) = pairs.next() {
             let mut changes = vec![(pair.key.clone(), Some(pair.value.clone()))];
             while let Some(other) = pairs.next_if(|other| other.created == pair.created) {
@@ -254,10 +316,16 @@ fn put_fence(member: &str, etcd: &Etcd, cluster: &str, mut place: u64) -> Result
     })
 }
 
-/// Keeps the log until the names of files are told.
-fn keep(cluster: &str, members: &str) -> (Kept, Vec<String>) {
-    let mut kept = Kept { cluster: cluster.into(), etcd: etcd(members, "check"), pairs: BTreeMap::new() };
-    while !kept.look() {}
+/// Keeps the log until the names of files are told, each after the thread that its node calls by.
+fn keep(cluster: &str, members: &str) -> (Arc<Kept>, Vec<String>) {
+    let etcd = etcd(members, "check");
+    let kept = Kept { cluster: cluster.into(), etcd, pairs: Mutex::default(), reached: AtomicU64::new(0) };
+    let kept = Arc::new(kept);
+    let follower = kept.clone();
+    std::thread::spawn(move || follower.follow());
+    while !kept.tell() {
+        std::thread::sleep(Duration::from_millis(50));
+    }
     println!("follows");
     let (sender, told) = channel();
     std::thread::spawn(move || std::io::stdin().lines().map_while(Result::ok).for_each(|line| drop(sender.send(line))));
@@ -265,38 +333,36 @@ fn keep(cluster: &str, members: &str) -> (Kept, Vec<String>) {
     loop {
         match told.recv_timeout(Duration::from_secs(1)) {
             Ok(file) => files.push(file),
-            Err(RecvTimeoutError::Timeout) => drop(kept.look()),
+            Err(RecvTimeoutError::Timeout) => drop(kept.tell()),
             Err(RecvTimeoutError::Disconnected) => break,
         }
     }
-    while !kept.look() {}
+    kept.catch_up();
     (kept, files)
 }
 
 fn check(words: &[String]) {
-    let [cluster, members, threads, dump] = words else { panic!("other words") };
-    let threads: Vec<u64> = threads.split(',').map(|text| text.parse().expect("a thread")).collect();
+    let [cluster, members, dump] = words else { panic!("other words") };
     let (kept, files) = keep(cluster, members);
-    let pairs: Vec<Pair> = kept.pairs.values().cloned().collect();
+    let pairs: Vec<Pair> = kept.pairs().values().cloned().collect();
     std::fs::write(dump, audit(&name(cluster), &pairs).expect("a dump")).expect("a file that can be written");
     let running = open::<Probe>(kept.engine(), cluster, "check");
     running.latest().expect("the log is played");
     let answered = running.read(|probe| std::mem::take(&mut probe.answered)).expect("a kernel");
     let entries = running.status().map_or(0, |status| status.entries);
-    let made_of = |number: u64| {
-        let of = |thread: &u64| {
-            let mut bytes = Vec::new();
-            making(*thread, number).put(&mut bytes);
-            answered.get(&bytes)
-        };
-        threads.iter().find_map(of).cloned().unwrap_or_default()
+    let made_of = |thread: u64, number: u64| {
+        let mut bytes = Vec::new();
+        making(thread, number).put(&mut bytes);
+        answered.get(&bytes).cloned().unwrap_or_default()
     };
     let (mut faults, mut told, mut never, mut unseen, mut open_calls, mut open_made) = (0, 0, 0, 0, 0, 0);
     let mut fault = |what: String| {
         faults += 1;
         println!("FAULT {what}");
     };
-    for file in files {
+    for line in files {
+        let (thread, file) = line.split_once(' ').expect("a thread and a file");
+        let thread: u64 = thread.parse().expect("a thread");
         let text = std::fs::read_to_string(file).expect("a file");
         let mut lines: HashMap<u64, Vec<&str>> = HashMap::new();
         // (a node that was killed may have written half a line)
@@ -310,7 +376,7 @@ fn check(words: &[String]) {
             }
         }
         for (number, words) in lines {
-            let made = made_of(number);
+            let made = made_of(thread, number);
             if made.len() > 1 {
                 fault(format!("{number} was made {} times", made.len()));
             }

@@ -30,6 +30,9 @@ const AWAY: u64 = 20;
 /// The same of a node that has just begun an incarnation.
 const NEW: u64 = 250;
 
+/// Nobody calls for so many steps after the writer of a checkpoint died before it agreed.
+const RESTS: u64 = 800;
+
 /// Numbers as a seed gives them.
 pub struct Random(u64);
 
@@ -112,6 +115,8 @@ pub struct World<P: Player> {
     /// Requests that arrive once so many steps were done.
     held: BTreeMap<u64, Sent>,
     steps: u64,
+    /// Until so many steps were done nobody calls, and nodes look around instead.
+    rests: u64,
     processes: Vec<Process<P>>,
     /// The threads by which each node calls, and the one that lies: its own, as far as it knows. The first is its own for good.
     threads: [Vec<u64>; 4],
@@ -154,6 +159,7 @@ impl<P: Player> World<P> {
             sent: Vec::new(),
             held: BTreeMap::new(),
             steps: 0,
+            rests: 0,
             processes: Vec::new(),
             threads: Default::default(),
             starts: 0,
@@ -252,6 +258,7 @@ impl<P: Player> World<P> {
             40..=59 => self.report(process),
             60..=79 => self.turn(process),
             80..=84 => self.look_around(process),
+            85..=93 if self.steps < self.rests => self.look_around(process),
             85..=93 => self.submit(process),
             _ => self.hurt(process),
         }
@@ -401,6 +408,8 @@ impl<P: Player> World<P> {
         self.expected = Some(|fault| *fault == Fault::OtherBoot);
         let other = [&boot.value[..boot.value.len() - 1], b"z"].concat();
         self.store.put(&boot.key, &other, None);
+        self.settle(SHORT);
+        (0..self.processes.len()).for_each(|process| self.look_around(process)); // (nothing happens else, and some may not yet have looked)
         self.settle(LONG);
         if self.processes.iter().any(|it| it.node.fault() != Some(&Fault::OtherBoot)) {
             self.breaks("a node goes on where what the cluster began with was changed");
@@ -494,7 +503,11 @@ impl<P: Player> World<P> {
             return self.told(&sent, Answer::Lost);
         }
         if let Some(place) = place_of_mark(&self.store, &sent.request).filter(|_| sent.process < 3 && self.aimed(100)) {
-            // (it dies before its checkpoint or its agreement is put, and is started anew after some time)
+            // (it dies before its checkpoint or its agreement is put, and is started anew after some time. Where it dies between both, the others
+            // come to drop the log before a later mark stands)
+            if lacks_agreement(&self.store, &sent.request) {
+                self.rests = self.steps + RESTS;
+            }
             self.restart(sent.process);
             self.processes[sent.process].left = Some(place);
             self.processes[sent.process].paused = 100 + self.random.below(300);
@@ -943,6 +956,14 @@ fn place_of_mark(store: &Store, request: &Request) -> Option<u64> {
         }
         _ => None,
     }
+}
+
+/// Whether a request puts an agreement of a node that has put the checkpoint.
+fn lacks_agreement(store: &Store, request: &Request) -> bool {
+    let Request::Put { key, .. } = request else { return false };
+    let Some(rest) = key.strip_prefix(b"/sim/log/a/") else { return false };
+    let state = [b"/sim/state/", rest].concat();
+    !store.range(&state, &[&state[..], &[0]].concat(), store.revision).is_empty()
 }
 
 /// The place of a checkpoint.
