@@ -493,7 +493,7 @@ def try_scene(report, confine, room, scene, user, audit, by=()):
     wrong = Play(confine, room, scene, user, by).wrong()
     report.counts(not wrong, name + "".join(f": {it}" for it in wrong))
     dump = f"{room}/dump"
-    return audit is None or (not os.path.exists(dump) if scene.status == USAGE else is_audited(audit, dump))
+    return audit is None or (not os.path.exists(dump) if scene.laid and scene.status == USAGE else is_audited(audit, dump))
 
 
 def lay_without_labels(room):
