@@ -22,7 +22,10 @@ from gate.report import Report
 from gate.starts import is_wrapped, shown_at_terminal
 
 CONFINE = "out/confine"
-UNABLE = 69
+USAGE, UNABLE = 2, 69
+
+# The status of what was ended since it did not end by itself.
+ENDLESS = -signal.SIGKILL
 ATTACKS = (*confine_attacks.REPORTS, *confine_attacks.OUTSIDE, *confine_attacks.INODES, *confine_attacks.MEANS, *confine_attacks.HELD, *confine_attacks.LABELS, *confine_attacks.STARTS, *confine_ends.ALL)
 
 # An ordinary user's number, as which root plays scenes too.
@@ -180,8 +183,12 @@ class Play:
         path = os.environ["PATH"] if self.confine else f"{os.path.dirname(self.room)}/bare:{os.environ['PATH']}"
         env = {**os.environ, **self.rooms.paths, "PROGRAM": self.scene.program or "", "KEPT": OWN, "PATH": path}
         laid = LAYING + [self.scene.laid, "sh"] if self.scene.laid else []
-        how = {"stdout": subprocess.PIPE, "stderr": subprocess.PIPE, "text": True, "errors": "replace", "timeout": 300}
-        self.done = subprocess.run([*self.by, *laid, *as_user, *self.words()], input=self.scene.stdin, env=env, cwd=self.room, **how)
+        how = {"stdout": subprocess.PIPE, "stderr": subprocess.PIPE, "text": True, "errors": "replace", "timeout": self.scene.seconds}
+        words = [*self.by, *laid, *as_user, *self.words()]
+        try:
+            self.done = subprocess.run(words, input=self.scene.stdin, env=env, cwd=self.room, **how)
+        except subprocess.TimeoutExpired:
+            self.done = subprocess.CompletedProcess(words, ENDLESS, "", f"it does not end within {self.scene.seconds} seconds")
         watched.said, watched.status = self.done.stdout + self.done.stderr, self.done.returncode
 
     def seen(self):
@@ -199,7 +206,7 @@ class Play:
         scene, seen, wrong = self.scene, self.seen(), []
         if scene.printed is not None and self.done.stdout != scene.printed:
             wrong.append(f"printed {self.done.stdout!r}")
-        if scene.status is not None and self.done.returncode != scene.status:
+        if self.done.returncode == ENDLESS or (scene.status is not None and self.done.returncode != scene.status):
             wrong.append(f"status {self.done.returncode} {self.done.stderr}")
         wanted = (scene.report + (NOTE if scene.leaks and scene.is_noted else ""), scene.second, scene.open)
         if any(it is not None and it != left for it, left in zip(wanted, self.reports())):
@@ -479,13 +486,14 @@ def ways(report):
 
 
 def try_scene(report, confine, room, scene, user, audit, by=()):
-    """Plays a scene with confine, and an attack without it too. Whether its dump audits clean."""
+    """Plays a scene with confine, and an attack without it too. Whether its dump audits clean; what is refused at its start has none."""
     name = f"confine: {scene.name} ({'root' if not user else 'a user'}{', without /dev/fuse' if by else ''})"
     if scene.leaks and not by:
         report.counts(Play(None, room, scene, user).is_seen(), f"{name}: it is seen without confine")
     wrong = Play(confine, room, scene, user, by).wrong()
     report.counts(not wrong, name + "".join(f": {it}" for it in wrong))
-    return audit is None or is_audited(audit, f"{room}/dump")
+    dump = f"{room}/dump"
+    return audit is None or (not os.path.exists(dump) if scene.laid and scene.status == USAGE else is_audited(audit, dump))
 
 
 def lay_without_labels(room):

@@ -81,13 +81,13 @@ ENDS = (
     Scene("ends a program that writes to one that has ended", "confine-run none -- yes | confine-run none -- head -1", printed="y\n", policy=POLICY),
     Scene("ends what writes to a gate that has ended", "yes > /gate/short; echo done", printed="y\ndone\n", policy=GATES.replace("broken", "short").replace('["/no/such/program"]', '["head", "-1"]'), status=None),
     Scene("ends the client of a program, and so the program", "confine-run none -- sh -c 'sleep 2; echo late > $Q' & p=$!; sleep 0.5; kill $p; sleep 2.5", policy=POLICY),
-    Scene("starts with an output that no broker can wait for", "timeout 3 " + perl('$f=syscall(290,0,0); syscall(33,$f,1); exec "confine-run","none","--","yes"') + " 2> /dev/null; echo $? > /tmp/s; cat /tmp/s", printed="69\n", policy=POLICY),
+    Scene("starts with an output that no broker can wait for", "timeout 3 " + perl('$f=syscall(290,0,0); syscall(33,$f,1); exec "confine-run","none","--","yes"') + " 2> /dev/null; echo $? > /tmp/s; cat /tmp/s", printed="69\n", policy=POLICY, seconds=30),
     Scene(
         "starts with an output that it half reads",
-        perl('socketpair(A,B,AF_UNIX,SOCK_STREAM,0); if (!($p=fork)) { open(STDOUT,">&",A); exec "confine-run","none","--","head","-c","9000000","/dev/zero" } sysread(B,$x,1000); select(undef,undef,undef,0.5); kill 9,$p')
-        + "; echo alive > /tmp/x; cat /tmp/x",
+        perl('socketpair(A,B,AF_UNIX,SOCK_STREAM,0); setsockopt(A,SOL_SOCKET,SO_SNDBUF,1); if (!($p=fork)) { open(STDOUT,">&",A); exec "confine-run","none","--","head","-c","9000000","/dev/zero" } sysread(B,$x,1000); select(undef,undef,undef,0.5); print `timeout 9 confine-run none -- echo alive`; kill 9,$p'),
         printed="alive\n",
         policy=POLICY,
+        seconds=30,
     ),
     Scene("joins a program to one that has ended", "confine-run none -- sh -c 'sleep 0.5; echo x; sleep 0.5; ls /tmp' | confine-run none -- true; echo done", printed="done\n", policy=POLICY),
     Scene("joins a program to one at its label that has ended", "confine-run first -- sh -c 'cat $S/key; sleep 1; cat $S/key; sleep 1; ls /tmp' | confine-run first -- head -1; echo done", printed="done\n", policy=POLICY, told=WITHHELD),
@@ -103,6 +103,13 @@ PLACES = (
         policy=GATES,
     ),
     Scene("starts more than have a place, and all run", "for i in $(seq 40); do confine-run none -- sh -c 'sleep 0.2; echo x' & done | wc -l; wait", printed="40\n", policy=POLICY),
+    Scene(
+        "starts more than the broker has descriptors for, and one once these have ended",
+        "for i in $(seq 12); do confine-run none -- sleep 1 2> /tmp/said$i & done; wait; cat /tmp/said* | grep -q 'can.t be started' && echo some; confine-run none -- echo body",
+        printed="some\nbody\n",
+        policy=POLICY,
+        laid="ulimit -n 64",
+    ),
     Scene("starts more at a label than have a place, and all run", "for i in $(seq 40); do confine-run first -- sh -c 'cat $S/key >> $R'; done; echo clean", printed="clean\n", report=LINE * 40, policy=POLICY),
 )
 

@@ -14,7 +14,7 @@ class Scene:
     how one of confine's lines ends, where that is asked. Where `leaks` names a way, the program tells the secret by it: the scene is
     also played without confine, where it has to be seen, and the program adds a line to its report once it has come to its end."""
 
-    def __init__(self, name, program, printed="", report="", second="", open="", status=0, words=None, stdin=None, policy="", told=None, leaks=None, users=(0, 1), is_noted=True, old="", laid=None):
+    def __init__(self, name, program, printed="", report="", second="", open="", status=0, words=None, stdin=None, policy="", told=None, leaks=None, users=(0, 1), is_noted=True, old="", laid=None, seconds=300):
         self.name = name
         self.program = program
         self.printed = printed
@@ -31,6 +31,7 @@ class Scene:
         self.is_noted = is_noted  # in confine: not where what it did bars it from its report
         self.old = old  # what stands in its report before
         self.laid = laid  # a command that root gives before it begins, in a namespace of its own for mounts
+        self.seconds = seconds  # it ends within that time
 
 
 ONE = ["--secret", "$S", "--report", "$R", "--public", "$P"]

@@ -19,9 +19,12 @@ trap 'rm -rf "$room"' EXIT
 mkdir -p "$top/out"
 made="$top/out/confine"
 checks=
+# (it starts sooner where no library is looked for)
+linked=-static-pie
 if [ -n "${CHECKED:-}" ]; then
     made="$top/out/confine-checked"
     checks='-fsanitize=address,undefined -fno-sanitize-recover=all -g'
+    linked='-static-libstdc++ -static-libgcc'
     "${CC:-cc}" -c "$top/bindings/confine/tried/checked.c" -o "$room/checked.o"
 fi
 strict='-std=c11 -O2 -fstack-protector-strong -Wall -Wextra -Wpedantic -Werror'
@@ -31,4 +34,4 @@ strict='-std=c11 -O2 -fstack-protector-strong -Wall -Wextra -Wpedantic -Werror'
 for file in "$top"/bindings/confine/*.c; do
     "${CC:-cc}" $strict $checks -I"$top/include" -I"$room" -c "$file" -o "$room/$(basename "$file").o"
 done
-"${CXX:-c++}" $checks -static-libstdc++ -static-libgcc "$room"/*.o -L"$library" -lhistar -o "$made"
+"${CXX:-c++}" $checks $linked "$room"/*.o -L"$library" -lhistar -o "$made"

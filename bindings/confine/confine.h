@@ -253,8 +253,10 @@ struct begun {
     bool has_input;              /* the broker fills its standard input */
 };
 
-/* Begins to start a program in a world of its own. Whether that could be begun. */
+/* Begins to start a program in namespaces of its own. Whether that could be begun. The plan may be looked at meanwhile: nothing of it is
+ * used before the start goes on. */
 bool begin_start(const struct plan *plan, const struct begun *begun, struct world *world);
+void go_on(const struct world *world);
 
 /* Waits until the program waits for the first answer. Where that fails a line said why, and it gives the status that confine ends
  * with; else 0. */

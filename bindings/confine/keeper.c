@@ -171,6 +171,7 @@ _Noreturn static void run_keeper(const struct plan *plan, struct ends *ends, int
     NEEDS(unshare(CLONE_NEWUSER | CLONE_NEWNS | CLONE_NEWNET | CLONE_NEWIPC | CLONE_NEWPID | CLONE_NEWUTS));
     NEEDS(prctl(PR_SET_PDEATHSIG, SIGKILL, 0, 0, 0));
     take_user(user, group);
+    if (read(socket, &byte, 1) != 1) _exit(ENDS_FAULT);
     make_world(plan);
     if (!send_world(plan, socket)) _exit(ENDS_FAULT);
     NEEDS(first = fork());
@@ -228,6 +229,12 @@ bool begin_start(const struct plan *plan, const struct begun *begun, struct worl
     if (!begun->has_input) close(in[1]), in[1] = -1;
     set(world, in[1], (int[]){out[0], error[0]}, keeper[0], program[0]);
     return true;
+}
+
+/* (A keeper that has ended already tells its status, or has none.) */
+void go_on(const struct world *world)
+{
+    if (write(world->keeper_socket, "g", 1) < 0) {}
 }
 
 static bool receive_number(int socket, int *number) { return recv(socket, number, sizeof *number, MSG_WAITALL) == sizeof *number; }

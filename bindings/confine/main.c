@@ -74,7 +74,6 @@ int main(int count, char **words)
     signal(SIGPIPE, SIG_IGN);
     read_words(count, words, &plan);
     find_reports(&plan);
-    keep_apart(&plan);
     find_folders(&plan);
     begun.words = plan.program;
     begun.environment = environment_of(&plan);
@@ -82,6 +81,8 @@ int main(int count, char **words)
     begun.has_input = has_input(&plan);
     raise_files();
     if (!begin_start(&plan, &begun, &family.world)) unable("a start");
+    keep_apart(&plan);
+    go_on(&family.world);
     make_objects(&plan);
     if (!is_born(&plan, &family)) refuse("the program's label is above its clearance");
     if ((status = end_start(&family.world))) return status;

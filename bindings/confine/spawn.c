@@ -182,7 +182,10 @@ void begin_waiting(struct plan *plan)
         if (!it->is_killed) {
             make_again(plan, it);
             it->stage = STARTING;
-            if (begin_start(plan, &it->request->begun, &it->family->world)) continue;
+            if (begin_start(plan, &it->request->begun, &it->family->world)) {
+                go_on(&it->family->world);
+                continue;
+            }
             tell_end(it, ENDS_UNABLE, "it can't be started");
         }
         if (it->out.id) let_go(it);
