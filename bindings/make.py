@@ -159,12 +159,40 @@ def function_in_c(call):
     looked_at = ", ".join(["1", *(str(place) for place, it in enumerate(given, 3) if it[1])])
     first, named = call.one("container"), call.one("entry")
     entry = f"histar_in({first.name}, HISTAR_NOTHING)" if first else named.name if named else "HISTAR_NOWHERE"
-    head = f"static inline uint32_t histar_{call.name}("
+    head = f"HISTAR_INLINE uint32_t histar_{call.name}("
     parameters = ", ".join(["histar *k", "histar_object thread", *(it[0] for it in given)]) + ")"
     wrapped = [it.replace("\0", " ") for it in textwrap.wrap(re.sub(r"(?<!,) ", "\0", parameters), WIDTH - len(head))]
     body = [f"uint32_t refusal = histar_asks(k, {call.constant}, thread, {entry});", "if (refusal) return refusal;", *fills_in_c(call), *ends_in_c(call)]
     return (remark([call.does.replace("`{3}`", "{3}"), call.in_c, refusals_in_c(call)]) + f"HISTAR_LOOKED_AT({looked_at})\n" + head
             + ("\n" + " " * len(head)).join(wrapped) + "\n{\n" + "".join(f"    {it}\n" for it in body) + "}\n")
+
+
+# What of the header is declared where nothing is compiled: enumerations, records, and functions. A kernel is a record that is not looked into.
+DECLARED = re.compile(
+    r"^(?:(?P<kept>enum \w* ?\{[^}]*\};|typedef struct \{[^}]*\} \w+;|typedef [^{;]*;|extern [^{;]*;|(?:size_t|u?int\w+_t|void|int|histar) [^{;=]*\)(?=;))"
+    r"|typedef struct (?P<hidden>\w+) \{|(?:HISTAR_INLINE|__attribute__\(\(nonnull\)\) HISTAR_INTO_CALLER) (?P<function>[^{]*\))\s*\{)", re.M)
+NUMBERED = re.compile(r"^#define (HISTAR_VERSION_NUMBER|HISTAR_LAYOUT) (\d+)$", re.M)
+
+
+def declared(header):
+    """What a header declares, without its remarks."""
+    text = re.sub(r"/\*.*?\*/", "", header, flags=re.S)
+    for it in NUMBERED.finditer(text):
+        yield f"#define {it[1]} {it[2]}"
+    for it in DECLARED.finditer(text):
+        if "HISTAR_IS_FREE" in it[0] or "histar_put put;" in it[0] or "left;" in it[0]:
+            continue
+        found = it["kept"] or it["function"]
+        yield f"typedef struct {it['hidden']} {it['hidden']};" if it["hidden"] else re.sub(r"\s+", " ", found.removesuffix(";")) + ";"
+
+
+def without_compiler():
+    """The header for what reads declarations and compiles nothing."""
+    lines = ["/* What histar.h and histar_debug.h declare, for cffi and others that read declarations and compile nothing. histar.h says what each does, and",
+             " * histar_new gives a kernel. Made from them by bindings/make.py, which makes their calls from bindings/calls.toml. */"]
+    for name in ("histar", "histar_debug"):
+        lines += declared(made_header() if name == "histar" else (TOP / f"include/{name}.h").read_text())
+    return "\n".join(lines) + "\n"
 
 
 # ---- The Rust crate ----
@@ -482,6 +510,7 @@ def parts(all_calls):
             joined(lambda it: f"    {it.constant} = {it.number},\n"),
             joined(function_in_c, writes, "\n"),
             joined(function_in_c, reads, "\n")]),
+        ("bindings/library/calls.c", c, [joined(lambda it: f'    {{"{it.name}", {it.constant}}},\n')]),
         (f"{RUST}/call.rs", rust, [
             joined(variant), joined(own_arm), read_test(reads), joined(shown_arm)]),
         (f"{RUST}/records.rs", rust, [joined(write_arm), joined(lambda it: f'    "{it.name}",\n')]),
@@ -503,6 +532,12 @@ def made_in(text, marks, made):
     return "".join(pieces)
 
 
+def made_header():
+    """include/histar.h as it is to be."""
+    path, marks, made = parts(calls())[0]
+    return made_in((TOP / path).read_text(), marks, made)
+
+
 def files():
     """Each file with its text as it is to be."""
     all_calls = calls()
@@ -511,6 +546,7 @@ def files():
     for group in GROUPS:
         yield f"{RUST}/session/{group}_calls.rs", methods(group, [method(it) for it in all_calls if it.group == group])
     yield "bindings/c/play/calls.c", player_in_c(all_calls)
+    yield "include/histar.cffi.h", without_compiler()
 
 
 def main(words):

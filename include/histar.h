@@ -52,6 +52,14 @@ extern "C" {
  * added since. Nothing is opened by a library whose layout has another meaning, or is older than this one. */
 #define HISTAR_LAYOUT 1001
 
+/* Each function below is compiled into its caller. The library has it as one that is called, too (histar.cffi.h). */
+#ifndef HISTAR_INLINE
+#define HISTAR_INLINE static inline
+#endif
+#ifndef HISTAR_INTO_CALLER
+#define HISTAR_INTO_CALLER __attribute__((always_inline)) static inline
+#endif
+
 /* What such a function returns is looked at, and these of its arguments are not NULL: gcc and clang warn. */
 #define HISTAR_LOOKED_AT(...) __attribute__((warn_unused_result, nonnull(__VA_ARGS__)))
 
@@ -70,13 +78,13 @@ typedef struct {
 } histar_category;
 
 /* The object of an id, and the category of a number, which were kept as numbers. */
-static inline histar_object histar_object_of(uint64_t id)
+HISTAR_INLINE histar_object histar_object_of(uint64_t id)
 {
     histar_object object;
     object.id = id;
     return object;
 }
-static inline histar_category histar_category_of(uint64_t number)
+HISTAR_INLINE histar_category histar_category_of(uint64_t number)
 {
     histar_category category;
     category.number = number;
@@ -143,7 +151,7 @@ enum histar_refusal {
 };
 
 /* The name of a refusal, as docs/CALLS.md has it; "" for a number that is none. */
-static inline const char *histar_refusal_name(uint32_t refusal)
+HISTAR_INLINE const char *histar_refusal_name(uint32_t refusal)
 {
     switch (refusal) {
     case HISTAR_HALTED: return "Halted";
@@ -197,7 +205,7 @@ typedef struct {
 static const histar_entry HISTAR_NOWHERE = {{0}, {0}};
 
 /* The entry of an object in a container. */
-static inline histar_entry histar_in(histar_object container, histar_object object)
+HISTAR_INLINE histar_entry histar_in(histar_object container, histar_object object)
 {
     histar_entry entry;
     entry.container = container;
@@ -216,7 +224,7 @@ typedef struct {
 static inline uint8_t histar_level_byte(uint64_t level) { return level > HISTAR_STAR ? 255 : (uint8_t)level; }
 
 /* The label of this level in every category. */
-static inline histar_label histar_level(uint64_t level)
+HISTAR_INLINE histar_label histar_level(uint64_t level)
 {
     histar_label label;
     memset(&label, 0, sizeof label);
@@ -225,7 +233,7 @@ static inline histar_label histar_level(uint64_t level)
 }
 
 /* The label with another level for a category. The 25th pair makes a label that every call refuses. */
-static inline histar_label histar_with(histar_label label, histar_category category, uint64_t level)
+HISTAR_INLINE histar_label histar_with(histar_label label, histar_category category, uint64_t level)
 {
     if (label.count < 24) {
         label.categories[label.count] = category;
@@ -358,7 +366,7 @@ void histar_wipe_below(size_t depth);
 enum { HISTAR_CALL_STACK = 28 << 10, HISTAR_TEXT_STACK = 56 << 10 };
 
 /* Wipes what calls of this thread left on its stack. Closes, opens at a text and texts do so; a thread that made calls does it at its end. */
-static inline void histar_wipe_stack(void) { histar_wipe_below(HISTAR_CALL_STACK); }
+HISTAR_INLINE void histar_wipe_stack(void) { histar_wipe_below(HISTAR_CALL_STACK); }
 
 /* ---- A kernel ---- */
 
@@ -509,7 +517,7 @@ __attribute__((nonnull, noinline, unused)) static uint32_t histar_closes(histar 
  * a call uses it, or it is a seat with a reader that is open: it is open then as before. A call that was left does not use it: by a jump, an
  * exception or the end of its thread out of the function that a text goes to, or by a jump to the function that closes, or one that called
  * it, out of anything. HISTAR_UNAVAILABLE in a child of fork. */
-__attribute__((nonnull, always_inline)) static inline uint32_t histar_close(histar *k) { return histar_closes(k, histar_stack()); }
+__attribute__((nonnull)) HISTAR_INTO_CALLER uint32_t histar_close(histar *k) { return histar_closes(k, histar_stack()); }
 
 /* The library's layout suits this header's, and a kernel has room for what it holds. */
 static inline uint32_t histar_suits(size_t size)
@@ -550,7 +558,7 @@ static inline uint32_t histar_booted(histar *k)
  * that a call gives, 4 to 2^61; the first category that a call gives, 1 to 2^61. Refused HISTAR_BAD_LIMITS,
  * HISTAR_UNAVAILABLE or HISTAR_OTHER_VERSION, and the kernel is closed as before; or HISTAR_BUSY where it is open, and it stays open. */
 HISTAR_LOOKED_AT(1)
-static inline uint32_t histar_open_with(histar *k, uint64_t pages, uint64_t device_level, uint64_t next_id,
+HISTAR_INLINE uint32_t histar_open_with(histar *k, uint64_t pages, uint64_t device_level, uint64_t next_id,
                                         uint64_t next_category)
 {
     uint32_t refusal = histar_begins(k);
@@ -566,7 +574,7 @@ static inline uint32_t histar_open_with(histar *k, uint64_t pages, uint64_t devi
 /* Opens a kernel of so many pages of 256 bytes, 8 to 1,024, as a script does: the device's label is 1, the first id 4 and
  * the first category 1. Refused as histar_open_with. */
 HISTAR_LOOKED_AT(1)
-static inline uint32_t histar_open(histar *k, uint64_t pages) { return histar_open_with(k, pages, 1, 4, 1); }
+HISTAR_INLINE uint32_t histar_open(histar *k, uint64_t pages) { return histar_open_with(k, pages, 1, 4, 1); }
 
 /* Opens a kernel at a text that histar_checkpoint wrote, on this machine or another: it has the limits of the kernel that was written
  * down and is in its state, so every read is answered the same, and ids and categories go on. No log is kept until histar_log_on, whose dump
@@ -576,7 +584,7 @@ static inline uint32_t histar_open(histar *k, uint64_t pages) { return histar_op
  * clean is refused neither; a text that may have been changed is for it to judge, since another one may open too. The text is
  * not needed any more then. Else refused as histar_open_with. */
 HISTAR_LOOKED_AT(1, 2)
-static inline uint32_t histar_open_at(histar *k, const void *text, size_t len)
+HISTAR_INLINE uint32_t histar_open_at(histar *k, const void *text, size_t len)
 {
     uint32_t refusal = histar_begins(k);
     if (refusal) return refusal;
@@ -624,7 +632,7 @@ static inline uint32_t histar_seat_booted(histar *seat, histar_note shared)
  * many write calls there may be, rounded up as before. Without it dumps are refused HISTAR_BAD_BATCH. histar_log_on is always
  * refused so, as are histar_log_cut, checkpoints and a look-up of histar_debug.h. Refused as histar_open_with. */
 HISTAR_LOOKED_AT(1)
-static inline uint32_t histar_share_with(histar *seat, uint64_t pages, uint64_t device_level, uint64_t next_id,
+HISTAR_INLINE uint32_t histar_share_with(histar *seat, uint64_t pages, uint64_t device_level, uint64_t next_id,
                                          uint64_t next_category, uint64_t most, int logs)
 {
     struct timespec since;
@@ -646,7 +654,7 @@ static inline uint32_t histar_share_with(histar *seat, uint64_t pages, uint64_t 
 
 /* The same, with the limits of histar_open and no log. */
 HISTAR_LOOKED_AT(1)
-static inline uint32_t histar_share(histar *seat, uint64_t pages, uint64_t most)
+HISTAR_INLINE uint32_t histar_share(histar *seat, uint64_t pages, uint64_t most)
 {
     return histar_share_with(seat, pages, 1, 4, 1, most, 0);
 }
@@ -655,7 +663,7 @@ static inline uint32_t histar_share(histar *seat, uint64_t pages, uint64_t most)
  * played again. A shared kernel has up to 4,096 seats at a time. HISTAR_UNAVAILABLE where it has as many, where there is no memory, or
  * where `from` is no open seat; HISTAR_BUSY where a call uses that one, or `seat` is open. */
 HISTAR_LOOKED_AT(1, 2)
-static inline uint32_t histar_seat_open(histar *seat, histar *from)
+HISTAR_INLINE uint32_t histar_seat_open(histar *seat, histar *from)
 {
     uint32_t refusal = histar_begins(seat);
     if (refusal) return refusal;
@@ -676,7 +684,7 @@ static inline uint32_t histar_seat_open(histar *seat, histar *from)
  * close; other seats go on. HISTAR_UNAVAILABLE where there is no memory, or where `seat` is no open seat; HISTAR_BUSY where a call uses that
  * one, or `reader` is open. */
 HISTAR_LOOKED_AT(1, 2)
-static inline uint32_t histar_reader_open(histar *reader, histar *seat)
+HISTAR_INLINE uint32_t histar_reader_open(histar *reader, histar *seat)
 {
     uint32_t refusal = histar_begins(reader);
     if (refusal) return refusal;
@@ -849,7 +857,7 @@ typedef struct {
     histar_entry space;
     uint64_t entry_point, closure;
 } histar_self;
-static inline void histar_self_of(const histar_answer *answer, histar_self *self)
+HISTAR_INLINE void histar_self_of(const histar_answer *answer, histar_self *self)
 {
     self->label = answer->label;
     self->clearance = answer->clearance;
@@ -863,7 +871,7 @@ static inline void histar_self_of(const histar_answer *answer, histar_self *self
 typedef struct {
     uint32_t quota, used, fixed, immutable;
 } histar_quota;
-static inline void histar_quota_of(const histar_answer *answer, histar_quota *quota)
+HISTAR_INLINE void histar_quota_of(const histar_answer *answer, histar_quota *quota)
 {
     quota->quota = (uint32_t)answer->numbers[0];
     quota->used = (uint32_t)answer->numbers[1];
@@ -877,7 +885,7 @@ typedef struct {
     uint32_t count;
     histar_object objects[16];
 } histar_list;
-static inline void histar_list_of(const histar_answer *answer, histar_list *list)
+HISTAR_INLINE void histar_list_of(const histar_answer *answer, histar_list *list)
 {
     list->length = answer->numbers[0];
     list->count = answer->len;
@@ -890,7 +898,7 @@ typedef struct {
     uint32_t page, first, count, rights;
     histar_entry segment;
 } histar_mapping;
-static inline void histar_mapping_of(const histar_answer *answer, histar_mapping *mapping)
+HISTAR_INLINE void histar_mapping_of(const histar_answer *answer, histar_mapping *mapping)
 {
     const uint64_t *n = answer->numbers;
     memset(mapping, 0, sizeof *mapping);
@@ -911,7 +919,7 @@ static inline void histar_mapping_of(const histar_answer *answer, histar_mapping
 /* Made from bindings/calls.toml: */
 /* A new category, which the thread owns: star in its label, 3 in its clearance. HISTAR_LABEL_FULL, HISTAR_SPENT. */
 HISTAR_LOOKED_AT(1)
-static inline uint32_t histar_cat_create(histar *k, histar_object thread, histar_category *category)
+HISTAR_INLINE uint32_t histar_cat_create(histar *k, histar_object thread, histar_category *category)
 {
     uint32_t refusal = histar_asks(k, HISTAR_CALL_CAT_CREATE, thread, HISTAR_NOWHERE);
     if (refusal) return refusal;
@@ -920,7 +928,7 @@ static inline uint32_t histar_cat_create(histar *k, histar_object thread, histar
 
 /* The thread's label rises, to its clearance at most. HISTAR_BAD_LABEL, HISTAR_LABEL_RANGE. */
 HISTAR_LOOKED_AT(1, 3)
-static inline uint32_t histar_self_set_label(histar *k, histar_object thread, const histar_label *label)
+HISTAR_INLINE uint32_t histar_self_set_label(histar *k, histar_object thread, const histar_label *label)
 {
     uint32_t refusal = histar_asks(k, HISTAR_CALL_SELF_SET_LABEL, thread, HISTAR_NOWHERE);
     if (refusal) return refusal;
@@ -931,7 +939,7 @@ static inline uint32_t histar_self_set_label(histar *k, histar_object thread, co
 /* The thread's clearance changes: at least its label, and at most the maximum of the old clearance and of the label
  * with star raised. HISTAR_BAD_LABEL, HISTAR_CLEARANCE_RANGE. */
 HISTAR_LOOKED_AT(1, 3)
-static inline uint32_t histar_self_set_clearance(histar *k, histar_object thread, const histar_label *clearance)
+HISTAR_INLINE uint32_t histar_self_set_clearance(histar *k, histar_object thread, const histar_label *clearance)
 {
     uint32_t refusal = histar_asks(k, HISTAR_CALL_SELF_SET_CLEARANCE, thread, HISTAR_NOWHERE);
     if (refusal) return refusal;
@@ -941,7 +949,7 @@ static inline uint32_t histar_self_set_clearance(histar *k, histar_object thread
 
 /* The thread's address space changes. HISTAR_NOWHERE for none. HISTAR_WRONG_TYPE. */
 HISTAR_LOOKED_AT(1)
-static inline uint32_t histar_self_set_as(histar *k, histar_object thread, histar_entry space)
+HISTAR_INLINE uint32_t histar_self_set_as(histar *k, histar_object thread, histar_entry space)
 {
     uint32_t refusal = histar_asks(k, HISTAR_CALL_SELF_SET_AS, thread, space);
     if (refusal) return refusal;
@@ -951,7 +959,7 @@ static inline uint32_t histar_self_set_as(histar *k, histar_object thread, hista
 /* A new container, last in a container's list, with a quota in pages of 256 bytes and the kinds that it will not
  * hold. What refuses each new object. */
 HISTAR_LOOKED_AT(1, 4)
-static inline uint32_t histar_container_create(histar *k, histar_object thread, histar_object container,
+HISTAR_INLINE uint32_t histar_container_create(histar *k, histar_object thread, histar_object container,
                                                const histar_label *label, uint64_t quota, uint64_t avoid,
                                                histar_object *made)
 {
@@ -966,7 +974,7 @@ static inline uint32_t histar_container_create(histar *k, histar_object thread, 
 /* A new segment of `pages` pages of zeros, 0 to 16, last in a container's list; its quota is at least one page more.
  * What refuses each new object, and HISTAR_BOUNDS. */
 HISTAR_LOOKED_AT(1, 4)
-static inline uint32_t histar_segment_create(histar *k, histar_object thread, histar_object container,
+HISTAR_INLINE uint32_t histar_segment_create(histar *k, histar_object thread, histar_object container,
                                              const histar_label *label, uint64_t quota, uint64_t pages,
                                              histar_object *made)
 {
@@ -981,7 +989,7 @@ static inline uint32_t histar_segment_create(histar *k, histar_object thread, hi
 /* A new segment with the bytes of another, last in a container's list. What refuses each new object, and
  * HISTAR_WRONG_TYPE. */
 HISTAR_LOOKED_AT(1, 4)
-static inline uint32_t histar_segment_copy(histar *k, histar_object thread, histar_object container,
+HISTAR_INLINE uint32_t histar_segment_copy(histar *k, histar_object thread, histar_object container,
                                            const histar_label *label, uint64_t quota, histar_entry source,
                                            histar_object *made)
 {
@@ -996,7 +1004,7 @@ static inline uint32_t histar_segment_copy(histar *k, histar_object thread, hist
 
 /* A new address space of 16 empty slots, last in a container's list. What refuses each new object. */
 HISTAR_LOOKED_AT(1, 4)
-static inline uint32_t histar_as_create(histar *k, histar_object thread, histar_object container,
+HISTAR_INLINE uint32_t histar_as_create(histar *k, histar_object thread, histar_object container,
                                         const histar_label *label, uint64_t quota, histar_object *made)
 {
     uint32_t refusal = histar_asks(k, HISTAR_CALL_AS_CREATE, thread, histar_in(container, HISTAR_NOTHING));
@@ -1009,7 +1017,7 @@ static inline uint32_t histar_as_create(histar *k, histar_object thread, histar_
 /* A new thread, last in a container's list, with the verify label {3}, no address space and closure 0. What refuses
  * each new object, and HISTAR_CLEARANCE_RANGE. */
 HISTAR_LOOKED_AT(1, 4, 6)
-static inline uint32_t histar_thread_create(histar *k, histar_object thread, histar_object container,
+HISTAR_INLINE uint32_t histar_thread_create(histar *k, histar_object thread, histar_object container,
                                             const histar_label *label, uint64_t quota, const histar_label *clearance,
                                             uint64_t entry_point, histar_object *made)
 {
@@ -1025,7 +1033,7 @@ static inline uint32_t histar_thread_create(histar *k, histar_object thread, his
 /* A new gate, last in a container's list. HISTAR_NOWHERE for no address space. What refuses each new object, and
  * HISTAR_CLEARANCE_RANGE, HISTAR_WRONG_TYPE. */
 HISTAR_LOOKED_AT(1, 4, 6)
-static inline uint32_t histar_gate_create(histar *k, histar_object thread, histar_object container,
+HISTAR_INLINE uint32_t histar_gate_create(histar *k, histar_object thread, histar_object container,
                                           const histar_label *label, uint64_t quota, const histar_label *clearance,
                                           histar_entry space, uint64_t entry_point, uint64_t closure,
                                           histar_object *made)
@@ -1046,7 +1054,7 @@ static inline uint32_t histar_gate_create(histar *k, histar_object thread, hista
  * HISTAR_WRONG_TYPE for a container, HISTAR_CANNOT_OBSERVE, HISTAR_CANNOT_MODIFY, HISTAR_LABEL_RANGE,
  * HISTAR_AVOID_TYPE, HISTAR_NO_QUOTA, HISTAR_NOT_FIXED, HISTAR_ALREADY_LINKED, HISTAR_IMMUTABLE. */
 HISTAR_LOOKED_AT(1)
-static inline uint32_t histar_link(histar *k, histar_object thread, histar_object target, histar_entry entry)
+HISTAR_INLINE uint32_t histar_link(histar *k, histar_object thread, histar_object target, histar_entry entry)
 {
     uint32_t refusal = histar_asks(k, HISTAR_CALL_LINK, thread, entry);
     if (refusal) return refusal;
@@ -1057,7 +1065,7 @@ static inline uint32_t histar_link(histar *k, histar_object thread, histar_objec
 /* The object leaves the container's list, and what no path from the root leads to is gone. HISTAR_CANNOT_OBSERVE,
  * HISTAR_CANNOT_MODIFY, HISTAR_ROOT_KEPT, HISTAR_IMMUTABLE. */
 HISTAR_LOOKED_AT(1)
-static inline uint32_t histar_unref(histar *k, histar_object thread, histar_entry entry)
+HISTAR_INLINE uint32_t histar_unref(histar *k, histar_object thread, histar_entry entry)
 {
     uint32_t refusal = histar_asks(k, HISTAR_CALL_UNREF, thread, entry);
     if (refusal) return refusal;
@@ -1067,7 +1075,7 @@ static inline uint32_t histar_unref(histar *k, histar_object thread, histar_entr
 /* The object's quota grows or shrinks by so many pages of 256 bytes. HISTAR_CANNOT_OBSERVE, HISTAR_CANNOT_MODIFY,
  * HISTAR_LABEL_RANGE, HISTAR_NO_QUOTA, HISTAR_FIXED_QUOTA, HISTAR_IMMUTABLE. */
 HISTAR_LOOKED_AT(1)
-static inline uint32_t histar_quota_move(histar *k, histar_object thread, histar_entry entry, int64_t change)
+HISTAR_INLINE uint32_t histar_quota_move(histar *k, histar_object thread, histar_entry entry, int64_t change)
 {
     uint32_t refusal = histar_asks(k, HISTAR_CALL_QUOTA_MOVE, thread, entry);
     if (refusal) return refusal;
@@ -1078,7 +1086,7 @@ static inline uint32_t histar_quota_move(histar *k, histar_object thread, histar
 
 /* The object's quota never changes again. HISTAR_CANNOT_OBSERVE, HISTAR_CANNOT_MODIFY, HISTAR_IMMUTABLE. */
 HISTAR_LOOKED_AT(1)
-static inline uint32_t histar_set_fixed(histar *k, histar_object thread, histar_entry entry)
+HISTAR_INLINE uint32_t histar_set_fixed(histar *k, histar_object thread, histar_entry entry)
 {
     uint32_t refusal = histar_asks(k, HISTAR_CALL_SET_FIXED, thread, entry);
     if (refusal) return refusal;
@@ -1088,7 +1096,7 @@ static inline uint32_t histar_set_fixed(histar *k, histar_object thread, histar_
 /* The object is read-only for good. HISTAR_WRONG_TYPE for a thread or a device, HISTAR_CANNOT_OBSERVE,
  * HISTAR_CANNOT_MODIFY. */
 HISTAR_LOOKED_AT(1)
-static inline uint32_t histar_set_immutable(histar *k, histar_object thread, histar_entry entry)
+HISTAR_INLINE uint32_t histar_set_immutable(histar *k, histar_object thread, histar_entry entry)
 {
     uint32_t refusal = histar_asks(k, HISTAR_CALL_SET_IMMUTABLE, thread, entry);
     if (refusal) return refusal;
@@ -1098,7 +1106,7 @@ static inline uint32_t histar_set_immutable(histar *k, histar_object thread, his
 /* The object's metadata are these 0 to 64 bytes, and then zeros. HISTAR_WRONG_TYPE for a thread,
  * HISTAR_CANNOT_OBSERVE, HISTAR_CANNOT_MODIFY, HISTAR_IMMUTABLE. */
 HISTAR_LOOKED_AT(1)
-static inline uint32_t histar_meta_set(histar *k, histar_object thread, histar_entry entry, const void *bytes,
+HISTAR_INLINE uint32_t histar_meta_set(histar *k, histar_object thread, histar_entry entry, const void *bytes,
                                        uint64_t len)
 {
     uint32_t refusal = histar_asks(k, HISTAR_CALL_META_SET, thread, entry);
@@ -1109,7 +1117,7 @@ static inline uint32_t histar_meta_set(histar *k, histar_object thread, histar_e
 /* The segment has so many pages, 0 to 16: what is cut off is gone, what is new is 0. HISTAR_WRONG_TYPE,
  * HISTAR_CANNOT_OBSERVE, HISTAR_CANNOT_MODIFY, HISTAR_NO_QUOTA, HISTAR_IMMUTABLE, HISTAR_BOUNDS. */
 HISTAR_LOOKED_AT(1)
-static inline uint32_t histar_segment_resize(histar *k, histar_object thread, histar_entry entry, uint64_t pages)
+HISTAR_INLINE uint32_t histar_segment_resize(histar *k, histar_object thread, histar_entry entry, uint64_t pages)
 {
     uint32_t refusal = histar_asks(k, HISTAR_CALL_SEGMENT_RESIZE, thread, entry);
     if (refusal) return refusal;
@@ -1120,7 +1128,7 @@ static inline uint32_t histar_segment_resize(histar *k, histar_object thread, hi
 /* These 1 to 64 bytes, in one page of 256, are written from `offset` on. HISTAR_WRONG_TYPE, HISTAR_CANNOT_OBSERVE,
  * HISTAR_CANNOT_MODIFY, HISTAR_IMMUTABLE, HISTAR_BOUNDS. */
 HISTAR_LOOKED_AT(1, 5)
-static inline uint32_t histar_segment_write(histar *k, histar_object thread, histar_entry entry, uint64_t offset,
+HISTAR_INLINE uint32_t histar_segment_write(histar *k, histar_object thread, histar_entry entry, uint64_t offset,
                                             const void *bytes, uint64_t len)
 {
     uint32_t refusal = histar_asks(k, HISTAR_CALL_SEGMENT_WRITE, thread, entry);
@@ -1133,7 +1141,7 @@ static inline uint32_t histar_segment_write(histar *k, histar_object thread, his
  * `first` on, are seen at the virtual page `page`; `rights` are HISTAR_READ, HISTAR_WRITE or both.
  * HISTAR_WRONG_TYPE, HISTAR_CANNOT_OBSERVE, HISTAR_CANNOT_MODIFY, HISTAR_IMMUTABLE, HISTAR_BOUNDS, HISTAR_OVERLAP. */
 HISTAR_LOOKED_AT(1)
-static inline uint32_t histar_as_map(histar *k, histar_object thread, histar_entry space, uint64_t slot, uint64_t page,
+HISTAR_INLINE uint32_t histar_as_map(histar *k, histar_object thread, histar_entry space, uint64_t slot, uint64_t page,
                                      histar_entry segment, uint64_t first, uint64_t count, uint64_t rights)
 {
     uint32_t refusal = histar_asks(k, HISTAR_CALL_AS_MAP, thread, space);
@@ -1151,7 +1159,7 @@ static inline uint32_t histar_as_map(histar *k, histar_object thread, histar_ent
 /* A filled slot, 0 to 15, is emptied. HISTAR_WRONG_TYPE, HISTAR_CANNOT_OBSERVE, HISTAR_CANNOT_MODIFY,
  * HISTAR_IMMUTABLE, HISTAR_BOUNDS, HISTAR_NOT_MAPPED. */
 HISTAR_LOOKED_AT(1)
-static inline uint32_t histar_as_unmap(histar *k, histar_object thread, histar_entry space, uint64_t slot)
+HISTAR_INLINE uint32_t histar_as_unmap(histar *k, histar_object thread, histar_entry space, uint64_t slot)
 {
     uint32_t refusal = histar_asks(k, HISTAR_CALL_AS_UNMAP, thread, space);
     if (refusal) return refusal;
@@ -1162,7 +1170,7 @@ static inline uint32_t histar_as_unmap(histar *k, histar_object thread, histar_e
 /* These 1 to 64 bytes, in one page of 256, are written through the thread's address space. HISTAR_BOUNDS,
  * HISTAR_NOT_MAPPED, HISTAR_RIGHTS_DENIED. */
 HISTAR_LOOKED_AT(1, 4)
-static inline uint32_t histar_store(histar *k, histar_object thread, uint64_t address, const void *bytes, uint64_t len)
+HISTAR_INLINE uint32_t histar_store(histar *k, histar_object thread, uint64_t address, const void *bytes, uint64_t len)
 {
     uint32_t refusal = histar_asks(k, HISTAR_CALL_STORE, thread, HISTAR_NOWHERE);
     if (refusal) return refusal;
@@ -1173,7 +1181,7 @@ static inline uint32_t histar_store(histar *k, histar_object thread, uint64_t ad
 /* The thread enters the gate: it has these labels from then on, and the gate's address space, entry point and
  * closure. NULL is allowed for the two results. HISTAR_WRONG_TYPE, HISTAR_BAD_LABEL, HISTAR_GATE_DENIED. */
 HISTAR_LOOKED_AT(1, 4, 5, 6)
-static inline uint32_t histar_gate_enter(histar *k, histar_object thread, histar_entry gate, const histar_label *label,
+HISTAR_INLINE uint32_t histar_gate_enter(histar *k, histar_object thread, histar_entry gate, const histar_label *label,
                                          const histar_label *clearance, const histar_label *verify,
                                          uint64_t *entry_point, uint64_t *closure)
 {
@@ -1191,7 +1199,7 @@ static inline uint32_t histar_gate_enter(histar *k, histar_object thread, histar
 /* A packet of 1 to 64 bytes is last in the device's queue. HISTAR_WRONG_TYPE, HISTAR_CANNOT_OBSERVE,
  * HISTAR_CANNOT_MODIFY, HISTAR_BOUNDS, HISTAR_DEVICE_FULL. */
 HISTAR_LOOKED_AT(1, 4)
-static inline uint32_t histar_dev_send(histar *k, histar_object thread, histar_entry device, const void *bytes,
+HISTAR_INLINE uint32_t histar_dev_send(histar *k, histar_object thread, histar_entry device, const void *bytes,
                                        uint64_t len)
 {
     uint32_t refusal = histar_asks(k, HISTAR_CALL_DEV_SEND, thread, device);
@@ -1203,7 +1211,7 @@ static inline uint32_t histar_dev_send(histar *k, histar_object thread, histar_e
  * packet's length, which is told in *len. HISTAR_WRONG_TYPE, HISTAR_CANNOT_OBSERVE, HISTAR_CANNOT_MODIFY,
  * HISTAR_DEVICE_EMPTY. */
 HISTAR_LOOKED_AT(1, 4, 6)
-static inline uint32_t histar_dev_recv(histar *k, histar_object thread, histar_entry device, void *bytes, uint64_t size,
+HISTAR_INLINE uint32_t histar_dev_recv(histar *k, histar_object thread, histar_entry device, void *bytes, uint64_t size,
                                        size_t *len)
 {
     uint32_t refusal = histar_asks(k, HISTAR_CALL_DEV_RECV, thread, device);
@@ -1217,7 +1225,7 @@ static inline uint32_t histar_dev_recv(histar *k, histar_object thread, histar_e
 /* Made from bindings/calls.toml: */
 /* What the thread is. */
 HISTAR_LOOKED_AT(1, 3)
-static inline uint32_t histar_self_get(histar *k, histar_object thread, histar_self *self)
+HISTAR_INLINE uint32_t histar_self_get(histar *k, histar_object thread, histar_self *self)
 {
     uint32_t refusal = histar_asks(k, HISTAR_CALL_SELF_GET, thread, HISTAR_NOWHERE);
     if (refusal) return refusal;
@@ -1228,7 +1236,7 @@ static inline uint32_t histar_self_get(histar *k, histar_object thread, histar_s
 
 /* The object's label. HISTAR_CANNOT_OBSERVE for a thread whose label the caller may not see. */
 HISTAR_LOOKED_AT(1, 4)
-static inline uint32_t histar_obj_label(histar *k, histar_object thread, histar_entry entry, histar_label *label)
+HISTAR_INLINE uint32_t histar_obj_label(histar *k, histar_object thread, histar_entry entry, histar_label *label)
 {
     uint32_t refusal = histar_asks(k, HISTAR_CALL_OBJ_LABEL, thread, entry);
     if (refusal) return refusal;
@@ -1239,7 +1247,7 @@ static inline uint32_t histar_obj_label(histar *k, histar_object thread, histar_
 
 /* What the object may use and uses. HISTAR_CANNOT_OBSERVE. */
 HISTAR_LOOKED_AT(1, 4)
-static inline uint32_t histar_obj_quota(histar *k, histar_object thread, histar_entry entry, histar_quota *quota)
+HISTAR_INLINE uint32_t histar_obj_quota(histar *k, histar_object thread, histar_entry entry, histar_quota *quota)
 {
     uint32_t refusal = histar_asks(k, HISTAR_CALL_OBJ_QUOTA, thread, entry);
     if (refusal) return refusal;
@@ -1250,7 +1258,7 @@ static inline uint32_t histar_obj_quota(histar *k, histar_object thread, histar_
 
 /* The length of a container's list, and up to 16 of its ids, from the place `from` on. HISTAR_BOUNDS. */
 HISTAR_LOOKED_AT(1, 5)
-static inline uint32_t histar_container_list(histar *k, histar_object thread, histar_object container, uint64_t from,
+HISTAR_INLINE uint32_t histar_container_list(histar *k, histar_object thread, histar_object container, uint64_t from,
                                              histar_list *list)
 {
     uint32_t refusal = histar_asks(k, HISTAR_CALL_CONTAINER_LIST, thread, histar_in(container, HISTAR_NOTHING));
@@ -1263,7 +1271,7 @@ static inline uint32_t histar_container_list(histar *k, histar_object thread, hi
 
 /* The container that lists a container; the root's is the root. */
 HISTAR_LOOKED_AT(1, 4)
-static inline uint32_t histar_container_parent(histar *k, histar_object thread, histar_object container,
+HISTAR_INLINE uint32_t histar_container_parent(histar *k, histar_object thread, histar_object container,
                                                histar_object *parent)
 {
     uint32_t refusal = histar_asks(k, HISTAR_CALL_CONTAINER_PARENT, thread, histar_in(container, HISTAR_NOTHING));
@@ -1273,7 +1281,7 @@ static inline uint32_t histar_container_parent(histar *k, histar_object thread, 
 
 /* The segment's length in pages of 256 bytes. HISTAR_WRONG_TYPE, HISTAR_CANNOT_OBSERVE. */
 HISTAR_LOOKED_AT(1, 4)
-static inline uint32_t histar_segment_len(histar *k, histar_object thread, histar_entry entry, uint64_t *pages)
+HISTAR_INLINE uint32_t histar_segment_len(histar *k, histar_object thread, histar_entry entry, uint64_t *pages)
 {
     uint32_t refusal = histar_asks(k, HISTAR_CALL_SEGMENT_LEN, thread, entry);
     if (refusal) return refusal;
@@ -1283,7 +1291,7 @@ static inline uint32_t histar_segment_len(histar *k, histar_object thread, hista
 /* 1 to 64 bytes of the segment, in one page of 256, from `offset` on. HISTAR_WRONG_TYPE, HISTAR_CANNOT_OBSERVE,
  * HISTAR_BOUNDS. */
 HISTAR_LOOKED_AT(1, 5)
-static inline uint32_t histar_segment_read(histar *k, histar_object thread, histar_entry entry, uint64_t offset,
+HISTAR_INLINE uint32_t histar_segment_read(histar *k, histar_object thread, histar_entry entry, uint64_t offset,
                                            void *bytes, uint64_t len)
 {
     uint32_t refusal = histar_asks(k, HISTAR_CALL_SEGMENT_READ, thread, entry);
@@ -1296,7 +1304,7 @@ static inline uint32_t histar_segment_read(histar *k, histar_object thread, hist
 /* The 64 bytes of the object's metadata. `bytes` has room for `size`: 64 or more. HISTAR_WRONG_TYPE for a thread,
  * HISTAR_CANNOT_OBSERVE. */
 HISTAR_LOOKED_AT(1, 4)
-static inline uint32_t histar_meta_get(histar *k, histar_object thread, histar_entry entry, void *bytes, uint64_t size)
+HISTAR_INLINE uint32_t histar_meta_get(histar *k, histar_object thread, histar_entry entry, void *bytes, uint64_t size)
 {
     uint32_t refusal = histar_asks(k, HISTAR_CALL_META_GET, thread, entry);
     if (refusal) return refusal;
@@ -1305,7 +1313,7 @@ static inline uint32_t histar_meta_get(histar *k, histar_object thread, histar_e
 
 /* What a slot, 0 to 15, of the address space maps. HISTAR_WRONG_TYPE, HISTAR_CANNOT_OBSERVE, HISTAR_BOUNDS. */
 HISTAR_LOOKED_AT(1, 5)
-static inline uint32_t histar_as_get(histar *k, histar_object thread, histar_entry space, uint64_t slot,
+HISTAR_INLINE uint32_t histar_as_get(histar *k, histar_object thread, histar_entry space, uint64_t slot,
                                      histar_mapping *mapping)
 {
     uint32_t refusal = histar_asks(k, HISTAR_CALL_AS_GET, thread, space);
@@ -1319,7 +1327,7 @@ static inline uint32_t histar_as_get(histar *k, histar_object thread, histar_ent
 /* 1 to 64 bytes, in one page of 256, read through the thread's address space. HISTAR_BOUNDS, HISTAR_NOT_MAPPED,
  * HISTAR_RIGHTS_DENIED. */
 HISTAR_LOOKED_AT(1, 4)
-static inline uint32_t histar_load(histar *k, histar_object thread, uint64_t address, void *bytes, uint64_t len)
+HISTAR_INLINE uint32_t histar_load(histar *k, histar_object thread, uint64_t address, void *bytes, uint64_t len)
 {
     uint32_t refusal = histar_asks(k, HISTAR_CALL_LOAD, thread, HISTAR_NOWHERE);
     if (refusal) return refusal;
@@ -1334,7 +1342,7 @@ static inline uint32_t histar_load(histar *k, histar_object thread, uint64_t add
 /* Makes the call of a record, for what keeps calls as data: it has the number of a write or read call, 1 to 34, and the fields that the
  * function of the call fills, but for the thread. The answer is written where it is not refused; fields that it does not have are 0. */
 HISTAR_LOOKED_AT(1, 3, 4)
-static inline uint32_t histar_make(histar *k, histar_object thread, const histar_request *call, histar_answer *answer)
+HISTAR_INLINE uint32_t histar_make(histar *k, histar_object thread, const histar_request *call, histar_answer *answer)
 {
     uint32_t refusal = histar_asks(k, call->call, thread, HISTAR_NOWHERE);
     if (refusal) return refusal;
@@ -1350,7 +1358,7 @@ static inline uint32_t histar_make(histar *k, histar_object thread, const histar
 
 /* A note of what the seat has seen, for another seat to learn. HISTAR_BAD_BATCH of a kernel that is no seat. */
 HISTAR_LOOKED_AT(1, 2)
-static inline uint32_t histar_seen(histar *seat, histar_note *note)
+HISTAR_INLINE uint32_t histar_seen(histar *seat, histar_note *note)
 {
     uint32_t refusal = histar_asks(seat, HISTAR_CALL_SEEN, HISTAR_NOTHING, HISTAR_NOWHERE);
     if (refusal) return refusal;
@@ -1365,7 +1373,7 @@ static inline uint32_t histar_seen(histar *seat, histar_note *note)
 /* The seat sees all that the note tells, so its reads from here on do. HISTAR_OTHER_LIST where the note is of another shared kernel,
  * and nothing changes; or tells more calls than there are. */
 HISTAR_LOOKED_AT(1)
-static inline uint32_t histar_learn(histar *seat, histar_note note)
+HISTAR_INLINE uint32_t histar_learn(histar *seat, histar_note note)
 {
     uint32_t refusal = histar_asks(seat, HISTAR_CALL_LEARN, HISTAR_NOTHING, HISTAR_NOWHERE);
     if (refusal) return refusal;
@@ -1383,7 +1391,7 @@ static inline uint32_t histar_learn(histar *seat, histar_note note)
  * another number of calls, and where a record is no write call; HISTAR_MEMORY, HISTAR_BUSY and HISTAR_LIST_FULL as of one call: no
  * call is made then, and nothing is written into the answers. */
 HISTAR_LOOKED_AT(1, 3, 5)
-static inline uint32_t histar_batch(histar *seat, histar_object thread, const histar_request *calls, size_t count,
+HISTAR_INLINE uint32_t histar_batch(histar *seat, histar_object thread, const histar_request *calls, size_t count,
                                     histar_answer *answers)
 {
     size_t at;
@@ -1432,7 +1440,7 @@ static inline uint32_t histar_logs(histar *k, uint32_t call, uint64_t most, uint
  * kept, reads are answered as ever. histar_log_cut makes room; UINT64_MAX is no bound. HISTAR_BAD_BATCH where a write call was made
  * already, and where `keeps` is neither. */
 HISTAR_LOOKED_AT(1)
-static inline uint32_t histar_log_on(histar *k, uint64_t most, uint64_t keeps)
+HISTAR_INLINE uint32_t histar_log_on(histar *k, uint64_t most, uint64_t keeps)
 {
     return histar_logs(k, HISTAR_CALL_LOG_ON, most, keeps);
 }
@@ -1441,7 +1449,7 @@ static inline uint32_t histar_log_on(histar *k, uint64_t most, uint64_t keeps)
  * the checkpoint of this moment and the calls from here on that are kept. Where no log was kept, one begins, in which each thread's first event has number 1.
  * HISTAR_MEMORY where there is no memory for that, and the log is as before; HISTAR_BAD_BATCH of a seat. */
 HISTAR_LOOKED_AT(1)
-static inline uint32_t histar_log_cut(histar *k, uint64_t most, uint64_t keeps)
+HISTAR_INLINE uint32_t histar_log_cut(histar *k, uint64_t most, uint64_t keeps)
 {
     return histar_logs(k, HISTAR_CALL_LOG_CUT, most, keeps);
 }
@@ -1566,7 +1574,7 @@ static inline uint32_t histar_streamed(histar *k, uint32_t call, histar_put put,
  * HISTAR_TEXT_MEMORY where there is no memory for a part, and the text has ended before it. The log stays as it is, so it may be dumped
  * again, and calls may follow. */
 HISTAR_LOOKED_AT(1, 2)
-static inline uint32_t histar_dump_to(histar *k, histar_put put, void *context)
+HISTAR_INLINE uint32_t histar_dump_to(histar *k, histar_put put, void *context)
 {
     return histar_streamed(k, HISTAR_CALL_DUMP, put, context);
 }
@@ -1576,7 +1584,7 @@ static inline uint32_t histar_dump_to(histar *k, histar_put put, void *context)
  * the dump of all calls since, and begins anew by a seat beside the one of the note: histar_close of the old one gives back what it lacked.
  * HISTAR_OTHER_LIST as histar_learn, and where the seat has seen more; the other refusals are those of histar_dump_to. */
 HISTAR_LOOKED_AT(1, 3)
-static inline uint32_t histar_dump_since(histar *older, histar_note note, histar_put put, void *context)
+HISTAR_INLINE uint32_t histar_dump_since(histar *older, histar_note note, histar_put put, void *context)
 {
     size_t len;
     uint32_t refusal = histar_asks(older, HISTAR_CALL_DUMP_SINCE, HISTAR_NOTHING, HISTAR_NOWHERE);
@@ -1593,7 +1601,7 @@ static inline uint32_t histar_dump_since(histar *older, histar_note note, histar
  * keep it as you would the kernel. Where a log is kept it has the number of each thread's next call too. It is a dump without calls:
  * histar-audit finds it clean, and histar_open_at opens it. HISTAR_TEXT_MEMORY as of a dump, HISTAR_BAD_BATCH of a seat. */
 HISTAR_LOOKED_AT(1, 2)
-static inline uint32_t histar_checkpoint_to(histar *k, histar_put put, void *context)
+HISTAR_INLINE uint32_t histar_checkpoint_to(histar *k, histar_put put, void *context)
 {
     return histar_streamed(k, HISTAR_CALL_CHECKPOINT, put, context);
 }
@@ -1619,17 +1627,37 @@ static inline uint32_t histar_writes(histar *k, uint32_t call, void *text, size_
  * longer than `size`: nothing but *needed is written then. Else refused as histar_dump_to; where that is HISTAR_TEXT_MEMORY, what stands
  * in the first `size` bytes is no text. */
 HISTAR_LOOKED_AT(1, 4)
-static inline uint32_t histar_dump(histar *k, void *text, size_t size, size_t *needed)
+HISTAR_INLINE uint32_t histar_dump(histar *k, void *text, size_t size, size_t *needed)
 {
     return histar_writes(k, HISTAR_CALL_DUMP, text, size, needed);
 }
 
 /* Writes the text that histar_checkpoint_to gives, as histar_dump writes a dump's. */
 HISTAR_LOOKED_AT(1, 4)
-static inline uint32_t histar_checkpoint(histar *k, void *text, size_t size, size_t *needed)
+HISTAR_INLINE uint32_t histar_checkpoint(histar *k, void *text, size_t size, size_t *needed)
 {
     return histar_writes(k, HISTAR_CALL_CHECKPOINT, text, size, needed);
 }
+
+/* ---- For languages that compile no C: they call the library's functions, by their names here ---- */
+
+/* A closed kernel in memory of the library's; NULL where there is none. What closes it, and gives that memory back unless it is refused: then
+ * the kernel stands as it did. */
+histar *histar_new(void);
+uint32_t histar_free(histar *k);
+
+/* How many bytes a record has, by its name as "histar_label"; and the number of a call, by its name as "segment_read". 0 of another name. */
+size_t histar_size_of(const char *record);
+uint32_t histar_call_number(const char *call);
+
+/* A text that is gathered in memory of the library's. It begins as zeros. histar_gathers is what a text goes to (histar_put), and is given
+ * one. histar_forgets wipes the text, gives its memory back, and leaves zeros. */
+typedef struct {
+    unsigned char *bytes;
+    size_t len, room;
+} histar_gathered;
+uint32_t histar_gathers(void *gathered, const void *part, size_t len);
+void histar_forgets(histar_gathered *text);
 
 #ifdef __cplusplus
 }

@@ -27,7 +27,7 @@ static inline uint32_t histar_finds(histar *k, int *is_there)
 
 /* The live object at a place, from 0, among all in the order of their ids. */
 HISTAR_LOOKED_AT(1, 3, 4)
-static inline uint32_t histar_kept_live(histar *k, uint64_t place, int *is_there, histar_object *object)
+HISTAR_INLINE uint32_t histar_kept_live(histar *k, uint64_t place, int *is_there, histar_object *object)
 {
     uint32_t refusal = histar_looks(k, HISTAR_CALL_KEPT_LIVE, HISTAR_NOTHING, is_there);
     if (refusal) return refusal;
@@ -39,7 +39,7 @@ static inline uint32_t histar_kept_live(histar *k, uint64_t place, int *is_there
 
 /* What an object uses, in pages of 256 bytes. There is one for each live id. */
 HISTAR_LOOKED_AT(1, 3, 4)
-static inline uint32_t histar_kept_use(histar *k, histar_object object, int *is_there, uint32_t *pages)
+HISTAR_INLINE uint32_t histar_kept_use(histar *k, histar_object object, int *is_there, uint32_t *pages)
 {
     uint32_t refusal = histar_looks(k, HISTAR_CALL_KEPT_USE, object, is_there);
     if (refusal) return refusal;
@@ -50,7 +50,7 @@ static inline uint32_t histar_kept_use(histar *k, histar_object object, int *is_
 
 /* What a slot, 0 to 15, of a live thread's address space shows: a segment, and HISTAR_READ and HISTAR_WRITE. */
 HISTAR_LOOKED_AT(1, 4, 5, 6)
-static inline uint32_t histar_kept_translation(histar *k, histar_object thread, uint64_t slot, int *is_there,
+HISTAR_INLINE uint32_t histar_kept_translation(histar *k, histar_object thread, uint64_t slot, int *is_there,
                                                histar_object *segment, uint32_t *rights)
 {
     const uint64_t *n = k->answer.numbers;
@@ -65,7 +65,7 @@ static inline uint32_t histar_kept_translation(histar *k, histar_object thread, 
 
 /* The label of an index, from 0 to 65,535. Each stored label has one index. */
 HISTAR_LOOKED_AT(1, 3, 4)
-static inline uint32_t histar_kept_label(histar *k, uint64_t index, int *is_there, histar_label *label)
+HISTAR_INLINE uint32_t histar_kept_label(histar *k, uint64_t index, int *is_there, histar_label *label)
 {
     uint32_t refusal = histar_looks(k, HISTAR_CALL_KEPT_LABEL, HISTAR_NOTHING, is_there);
     if (refusal) return refusal;
@@ -78,7 +78,7 @@ static inline uint32_t histar_kept_label(histar *k, uint64_t index, int *is_ther
 /* How the label A of an index compares with the label B of another: the sum of 1 where A is at most B, 2 where it is once
  * B's star is raised, and 4 where it is once the star of both is raised. There is one where both indexes have a label. */
 HISTAR_LOOKED_AT(1, 4, 5)
-static inline uint32_t histar_kept_order(histar *k, uint64_t first, uint64_t second, int *is_there, uint32_t *bits)
+HISTAR_INLINE uint32_t histar_kept_order(histar *k, uint64_t first, uint64_t second, int *is_there, uint32_t *bits)
 {
     uint32_t refusal = histar_looks(k, HISTAR_CALL_KEPT_ORDER, HISTAR_NOTHING, is_there);
     if (refusal) return refusal;
