@@ -1,13 +1,16 @@
 #!/usr/bin/env python3
-"""bindings/make.py           makes, from bindings/calls.toml, what the header, the Rust crate, the players and docs/CALLS.md say of each call
+"""bindings/make.py           makes, from bindings/calls.toml, what the headers, the Rust crate, the Python package, the players and docs/CALLS.md say of each
+                           call
 bindings/make.py --check   says which of these files are stale, and changes none: status 1 where one is
 
-A made part stands between two lines of the file, which both name calls.toml. The Rust files of methods and the player's calls in C are made whole."""
+A made part stands between two lines of the file, which both name calls.toml. The Rust files of methods, three of Python's, the header for cffi and the player's calls in C are made whole."""
 import pathlib
 import re
 import sys
 import textwrap
 import tomllib
+
+import make_python
 
 TOP = pathlib.Path(__file__).resolve().parent.parent
 WIDTH = 120
@@ -547,12 +550,14 @@ def files():
         yield f"{RUST}/session/{group}_calls.rs", methods(group, [method(it) for it in all_calls if it.group == group])
     yield "bindings/c/play/calls.c", player_in_c(all_calls)
     yield "include/histar.cffi.h", without_compiler()
+    yield from make_python.files(all_calls, made_header())
 
 
 def main(words):
     if words not in ([], ["--check"]):
         raise SystemExit(__doc__)
-    stale = [(path, text) for path, text in files() if (TOP / path).read_text() != text]
+    sys.dont_write_bytecode = True
+    stale = [(path, text) for path, text in files() if not (TOP / path).exists() or (TOP / path).read_text() != text]
     for path, text in stale:
         print(f"make: {path} {'is stale' if words else 'is made'}")
         if not words:
