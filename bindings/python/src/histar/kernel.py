@@ -2,11 +2,10 @@
 import atexit
 import contextlib
 import ctypes
-import sys
 import weakref
 from collections.abc import Iterator
 from types import TracebackType
-from typing import TYPE_CHECKING, Callable, Final, NoReturn, Optional, Protocol, TypeVar, Union
+from typing import TYPE_CHECKING, Any, Callable, Final, NoReturn, Optional, Protocol, TypeVar, Union
 
 from ._call import Call
 from ._library import CLOSED, Gathered, Label as LabelRecord, gathers, library, unlocked
@@ -99,7 +98,7 @@ class Holder:
         it._answers = []
         return it
 
-    def _opens(self, call: str, opens: Callable[[int], int]) -> None:
+    def _opens(self, call: str, opens: Callable[[int], Any]) -> None:
         """Opens what this holds by a function of the library."""
         if self._place != CLOSED:
             raise refused(46, call)
@@ -155,7 +154,7 @@ class Holder:
         answers.append(answer)
         return told
 
-    def _text(self, call: str, gives: Callable[[Gathered], int]) -> Gathered:
+    def _text(self, call: str, gives: Callable[[Gathered], Any]) -> Gathered:
         """A text that the library gathers, which is forgotten where it is refused."""
         text = Gathered()
         number = gives(text)
@@ -164,14 +163,14 @@ class Holder:
             raise refused(number, call)
         return text
 
-    def _bytes(self, call: str, gives: Callable[[Gathered], int]) -> bytes:
+    def _bytes(self, call: str, gives: Callable[[Gathered], Any]) -> bytes:
         text = self._text(call, gives)
         try:
             return ctypes.string_at(text.bytes, text.len)
         finally:
             library.histar_forgets(text)
 
-    def _writes(self, out: Out, call: str, gives: Callable[[Gathered], int]) -> None:
+    def _writes(self, out: Out, call: str, gives: Callable[[Gathered], Any]) -> None:
         """Writes a text in parts. Nobody is given it before it is whole, so what `out` raises costs the text alone."""
         text = self._text(call, gives)
         try:
