@@ -25,6 +25,8 @@ class Call(Generic[T]):
     __slots__ = ("name", "object", "_record", "_read")
 
     def __init__(self, name: str, object: Optional[int], record: bytes, read: Callable[[memoryview], T]) -> None:
+        if type(record) is not bytes or len(record) != 824:
+            raise TypeError("a call is made by a function of histar.calls")
         self.name = name
         self.object = object
         self._record = record
