@@ -10,7 +10,9 @@ import sys
 import textwrap
 import tomllib
 
-import make_python
+sys.dont_write_bytecode = True
+
+import make_python  # noqa: E402
 
 TOP = pathlib.Path(__file__).resolve().parent.parent
 WIDTH = 120
@@ -556,7 +558,6 @@ def files():
 def main(words):
     if words not in ([], ["--check"]):
         raise SystemExit(__doc__)
-    sys.dont_write_bytecode = True
     stale = [(path, text) for path, text in files() if not (TOP / path).exists() or (TOP / path).read_text() != text]
     for path, text in stale:
         print(f"make: {path} {'is stale' if words else 'is made'}")

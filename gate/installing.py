@@ -72,6 +72,7 @@ def lay(room, prefix):
     packages.lay_programs(room, prefix, sources.commit()[2])
     packages.lay_loaded(room)
     packages.lay_library(room, prefix)
+    packages.lay_python(room)
     room.put(LISTED, "".join(f"{it}\n" for it in [*room.laid, LISTED]))
 
 

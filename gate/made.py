@@ -7,14 +7,15 @@ import sys
 import tempfile
 
 PARTS = ("bindings", "include", "docs")
+CFFI, PYTHON = "include/histar.cffi.h", tuple(f"bindings/python/src/histar/{it}.py" for it in ("calls", "_methods"))
 HEADER, RUST, C_PLAYER, DOCS = "include/histar.h", "bindings/rust/histar", "bindings/c/play/calls.c", "docs/CALLS.md"
 # (what is turned in the table, into what, and the files that say it)
 TURNS = (
-    ("number = 13\n", "number = 35\n", (HEADER, f"{RUST}/src/call.rs", f"{RUST}/src/records.rs", DOCS)),
-    ('["change", "i32",', '["change", "u32",', (HEADER, f"{RUST}/src/call.rs", f"{RUST}/src/records.rs", f"{RUST}/src/session/link_calls.rs", C_PLAYER)),
-    ('["offset", "u32",', '["begin", "u32",', (HEADER, f"{RUST}/src/call.rs", f"{RUST}/src/records.rs", f"{RUST}/src/session/memory_calls.rs",
+    ("number = 13\n", "number = 35\n", (HEADER, CFFI, PYTHON[0], f"{RUST}/src/call.rs", f"{RUST}/src/records.rs", DOCS)),
+    ('["change", "i32",', '["change", "u32",', (HEADER, CFFI, PYTHON[0], f"{RUST}/src/call.rs", f"{RUST}/src/records.rs", f"{RUST}/src/session/link_calls.rs", C_PLAYER)),
+    ('["offset", "u32",', '["begin", "u32",', (HEADER, CFFI, *PYTHON, f"{RUST}/src/call.rs", f"{RUST}/src/records.rs", f"{RUST}/src/session/memory_calls.rs",
                                                 f"{RUST}/examples/play/words.rs", C_PLAYER)),
-    ('"RootKept"', '"Spent"', (HEADER, f"{RUST}/src/session/link_calls.rs")),
+    ('"RootKept"', '"Spent"', (HEADER, *PYTHON, f"{RUST}/src/session/link_calls.rs")),
     ('"the slot is empty; `ok`"', '"the slot is filled; `ok`"', (DOCS,)),
 )
 

@@ -10,22 +10,34 @@ import subprocess
 import sys
 import tarfile
 import tempfile
+import zipfile
 
 from gate import manuals, sources, versions
 
 PROGRAMS = {"histar": "crates/histar/out/histar", "histar-audit": "crates/histar_audit/out/histar_audit"}
 CONFINE, LIBRARY, OUT = "out/confine", "out/lib/libhistar.a", "out/packages"
 USAGE, NO_COMMAND, NO_ROOM, NOT_BUILT, STOPPED = 2, 69, 73, 78, 130
-HEADERS = ("include/histar.h", "include/histar_debug.h")
+HEADERS = ("include/histar.h", "include/histar_debug.h", "include/histar.cffi.h")
+PYTHON = "bindings/python/src/histar"
 SONAME = "libhistar.so.0"
 MAINTAINER = "Koalaingot maintainers <maintainers@users.noreply.koalaingot.example>"
 ABOUT = {
     "koalaingot": ("proved label kernel: programs and a sandbox", "libc6 (>= 2.36)"),
     "libhistar0": ("proved label kernel, as a library that programs load", "libc6 (>= 2.36)"),
     "libhistar-dev": ("proved label kernel for C, C++ and Rust programs", "libc6-dev (>= 2.36), libhistar0 (= {version}-1)"),
+    "python3-histar": ("proved label kernel for Python programs", "python3 (>= 3.9), libhistar0 (= {version}-1)"),
 }
+ARCHITECTURES = {"python3-histar": "all"}
 SUGGESTED = {"koalaingot": ("Suggests: rlwrap",)}
-SECTIONS = {"koalaingot": "utils", "libhistar0": "libs", "libhistar-dev": "libdevel"}
+SECTIONS = {"koalaingot": "utils", "libhistar0": "libs", "libhistar-dev": "libdevel", "python3-histar": "python"}
+# What compiles the package's files where it is installed, and takes that away again, as for each package of Python's.
+SCRIPTS = {
+    "python3-histar": {
+        "postinst": "#!/bin/sh\nset -e\nif command -v py3compile > /dev/null 2>&1; then\n    py3compile -p python3-histar\nfi\n",
+        "prerm": "#!/bin/sh\nset -e\nif command -v py3clean > /dev/null 2>&1; then\n    py3clean -p python3-histar\nelse\n"
+        "    rm -rf /usr/lib/python3/dist-packages/histar/__pycache__\nfi\n",
+    },
+}
 COPYRIGHT = """Format: https://www.debian.org/doc/packaging-manuals/copyright-format/1.0/
 Upstream-Name: koalaingot
 
@@ -34,7 +46,7 @@ Copyright: 2026 Koalaingot maintainers
 License: Apache-2.0
  The text of this licence is in /usr/share/common-licenses/Apache-2.0.
 """
-TRIPLE = "x86_64-linux-gnu"
+TRIPLE, PLATFORM = "x86_64-linux-gnu", "manylinux_2_36_x86_64"
 
 
 # What starts a program. The gap is what it does for one program alone.
@@ -205,6 +217,51 @@ def lay_library(room, prefix):
     lay_about(room, "libhistar-dev")
 
 
+def lay_python(room):
+    """What Python programs load."""
+    for file in sources.files():
+        if file.startswith(f"{PYTHON}/"):
+            room.copy(f"lib/python3/dist-packages/histar/{file.removeprefix(f'{PYTHON}/')}", file)
+    lay_about(room, "python3-histar")
+
+
+def lay_python_package(room, wheel):
+    """The same, with what the wheel tells of itself."""
+    lay_python(room)
+    with zipfile.ZipFile(wheel) as it:
+        for name in it.namelist():
+            if name.endswith(("/METADATA", "/top_level.txt")):
+                room.put(f"lib/python3/dist-packages/{name}", it.read(name))
+
+
+def wheel_maker():
+    """A Python that makes wheels."""
+    for it in (sys.executable, "/usr/bin/python3"):
+        if subprocess.run([it, "-c", "import setuptools, wheel"], stderr=subprocess.DEVNULL, check=False).returncode == 0:
+            return it
+    raise Fault(NO_COMMAND, "no Python has setuptools and wheel (Debian: python3-setuptools, python3-wheel)")
+
+
+def make_wheel(folder, seconds):
+    """The Python package with the library in it, for machines where no package of Debian's is installed."""
+    with tempfile.TemporaryDirectory() as top:
+        room = Room(top)
+        room.copy("pyproject.toml", "bindings/python/pyproject.toml")
+        room.put("setup.cfg", f"[bdist_wheel]\nplat_name = {PLATFORM}\n")
+        for file in sources.files():
+            if file.startswith(f"{PYTHON}/"):
+                room.copy(f"src/histar/{file.removeprefix(f'{PYTHON}/')}", file)
+        shared_library(f"{top}/{SONAME}")
+        room.program(f"src/histar/{SONAME}", f"{top}/{SONAME}")
+        os.remove(f"{top}/{SONAME}")
+        set_times(top, seconds)
+        made = "from setuptools.build_meta import build_wheel; build_wheel('made')"
+        made_by(wheel_maker(), "-c", made, cwd=top, env={**os.environ, "SOURCE_DATE_EPOCH": str(seconds), "LC_ALL": "C.UTF-8", "TZ": "UTC"})
+        name, = os.listdir(f"{top}/made")
+        shutil.copyfile(f"{top}/made/{name}", f"{folder}/{name}")
+    return name
+
+
 def set_times(top, seconds):
     for at, folders, files in os.walk(top):
         for it in (at, *(f"{at}/{name}" for name in (*folders, *files))):
@@ -229,7 +286,7 @@ def symbols(name, library):
 def about(name, laid):
     """The files that Debian keeps of a package."""
     what, depends = ABOUT[name]
-    lines = [f"Package: {name}", f"Version: {versions.read()}-1", "Architecture: amd64", f"Maintainer: {MAINTAINER}", f"Installed-Size: {size_of(laid.top)}"]
+    lines = [f"Package: {name}", f"Version: {versions.read()}-1", f"Architecture: {ARCHITECTURES.get(name, 'amd64')}", f"Maintainer: {MAINTAINER}", f"Installed-Size: {size_of(laid.top)}"]
     lines += [f"Depends: {depends.format(version=versions.read())}", *SUGGESTED.get(name, ()), f"Section: {SECTIONS[name]}", "Priority: optional", f"Description: {what}"]
     lines += [" The object model of HiStar in user space: labels alone decide who observes", " and who modifies what. Its kernel is proved to follow its rules."]
     told = {"control": "\n".join(lines) + "\n", "md5sums": "".join(sum_of(laid, it) for it in sorted(laid.laid) if not os.path.islink(f"{laid.top}/{it}"))}
@@ -237,7 +294,7 @@ def about(name, laid):
         told["shlibs"] = f"libhistar 0 {name} (>= {versions.read()})\n"
         told["symbols"] = symbols(name, f"{laid.top}/lib/{TRIPLE}/{SONAME}")
         told["triggers"] = "activate-noawait ldconfig\n"
-    return told
+    return {**told, **SCRIPTS.get(name, {})}
 
 
 def sum_of(laid, file):
@@ -254,8 +311,9 @@ def deb(name, lay, room, seconds):
     for file, text in about(name, laid).items():
         with open(f"{top}/DEBIAN/{file}", "w", encoding="utf-8") as it:
             it.write(text)
+            os.fchmod(it.fileno(), 0o755 if text.startswith("#!") else 0o644)
     set_times(top, seconds)
-    file = f"{name}_{versions.read()}-1_amd64.deb"
+    file = f"{name}_{versions.read()}-1_{ARCHITECTURES.get(name, 'amd64')}.deb"
     made_by("dpkg-deb", "--root-owner-group", "--build", top, f"{room}/{file}", env={**os.environ, "SOURCE_DATE_EPOCH": str(seconds)})
     return file
 
@@ -287,6 +345,7 @@ def tarball(room):
 def pack():
     """Makes all packages, and returns their files. They take the place of older ones once all are made."""
     needs()
+    wheel_maker()
     _, seconds, day = sources.commit()
     os.umask(0o022)
     os.makedirs(os.path.dirname(OUT), exist_ok=True)
@@ -296,6 +355,8 @@ def pack():
         made.append(deb("koalaingot", lambda it: lay_programs(it, "/usr", day), room, seconds))
         made.append(deb("libhistar0", lay_loaded, room, seconds))
         made.append(deb("libhistar-dev", lambda it: lay_library(it, "/usr"), room, seconds))
+        made.append(make_wheel(room, seconds))
+        made.append(deb("python3-histar", lambda it: lay_python_package(it, f"{room}/{made[-1]}"), room, seconds))
         shutil.rmtree(OUT, ignore_errors=True)
         os.makedirs(OUT)
         for it in made:

@@ -23,7 +23,7 @@ FILES = {
 }
 
 PYTHON = "import ctypes; it = ctypes.CDLL('libhistar.so.0'); print(it.histar_version(), hasattr(it, 'histar_boot'), hasattr(it, 'rattle_alloc'))"
-OTHER = r'sed "s/\(define HISTAR_VERSION_NUMBER\) .*/\1 1/" /usr/include/histar.h > /srv/histar.h && cc -I/srv'
+OTHER = r'sed "s/\(define HISTAR_LAYOUT\) .*/\1 2001/" /usr/include/histar.h > /srv/histar.h && cc -I/srv'
 
 # What is typed there, and what it prints.
 ROWS = (
@@ -39,8 +39,10 @@ ROWS = (
     ("c++ by pkg-config", "c++ -x c++ /srv/try.c $(pkg-config --cflags --libs histar) -o /srv/try && /srv/try", "open\n"),
     ("cargo", "cd /srv/rust && cargo run --offline --quiet", "true\n"),
     ("Python", f'python3 -c "{PYTHON}"', "{number} True False\n"),
-    ("a header of another version", f"{OTHER} /srv/try.c -lhistar -o /srv/try && /srv/try", "32 OtherVersion\n"),
-    ("both go again", "dpkg --remove koalaingot libhistar-dev libhistar0 > /dev/null && ls -d /usr/bin/histar* /usr/share/histar 2> /dev/null | wc -l", "0\n"),
+    ("the package of Python", "python3 -c \"import histar; print(histar.Kernel(64).session().cat_create())\"", "#1\n"),
+    ("its compiled files", "ls /usr/lib/python3/dist-packages/histar/__pycache__ | wc -l", "11\n"),
+    ("a header of another layout", f"{OTHER} /srv/try.c -lhistar -o /srv/try && /srv/try", "32 OtherVersion\n"),
+    ("all go again", "dpkg --remove koalaingot python3-histar libhistar-dev libhistar0 > /dev/null && ls -d /usr/bin/histar* /usr/share/histar /usr/lib/python3/dist-packages/histar 2> /dev/null | wc -l", "0\n"),
 )
 
 

@@ -2,6 +2,7 @@
 of their own. ./install is tried where programs run, where links stand, and where it is stopped."""
 import collections
 import contextlib
+import glob
 import hashlib
 import os
 import re
@@ -11,6 +12,7 @@ import subprocess
 import sys
 import tempfile
 import time
+import zipfile
 
 from gate import manuals, roots, starts
 from gate.packages import CONFINE, LIBRARY, NO_ROOM, NOT_BUILT, OUT, PROGRAMS, SONAME, TRIPLE, Fault, pack
@@ -18,6 +20,7 @@ from gate.plays import text
 from gate.report import Report
 
 C_PROGRAM = "#include <histar.h>\n#include <stdio.h>\nint main(void) { static histar k; if (histar_open(&k, 64)) return 1; puts(\"open\"); histar_close(&k); return 0; }\n"
+PACKAGE = "import histar; k = histar.Kernel(64); print(k.session().cat_create(), bool(k.checkpoint()))"
 PYTHON = "import ctypes; it = ctypes.CDLL('{so}'); print(hasattr(it, 'histar_boot') and hasattr(it, 'histar_call') and not hasattr(it, 'rattle_alloc'))"
 
 
@@ -97,6 +100,16 @@ def try_library(report, top):
             report.counts(ended == (0, "open\n"), f"packages: {compiler} by pkg-config, {linked}: {ended}")
     ended = ran(sys.executable, "-c", PYTHON.format(so=f"{folder}/{SONAME}"))
     report.counts(ended == (0, "True\n"), f"packages: Python loads {SONAME}: {ended}")
+    for what, place, loaded in (("its package", f"{top}/usr/lib/python3/dist-packages", {"HISTAR_LIB": folder}), ("its wheel", unpacked_wheel(top), {})):
+        ended = ran(sys.executable, "-c", PACKAGE, env={"PYTHONPATH": place, "PYTHONDONTWRITEBYTECODE": "1", **loaded})
+        report.counts(ended == (0, "#1 True\n"), f"packages: Python by {what}: {ended}")
+
+
+def unpacked_wheel(top):
+    """A folder with what the wheel has."""
+    with zipfile.ZipFile(glob.glob(f"{OUT}/*.whl")[0]) as it:
+        it.extractall(f"{top}/wheel")
+    return f"{top}/wheel"
 
 
 def is_told(report, what, status, **how):
@@ -152,7 +165,7 @@ def try_sizes(report, made):
             installed = 1024 * int(ran("dpkg-deb", "-f", f"{OUT}/{file}", "Installed-Size")[1])
             row = f"| `{name}` | a package of {megabytes(size)}, {megabytes(installed)} installed |"
         else:
-            row = f"| the sources | {megabytes(size)} |"
+            row = f"| {'the wheel' if file.endswith('.whl') else 'the sources'} | {megabytes(size)} |"
         report.counts(row in page, f"packages: docs/INSTALL.md has {row}")
 
 
@@ -308,7 +321,7 @@ def try_all(report, tree="."):
         first = sums()
         pack()
         second = sums()
-    report.counts(first is not None and first == second and len(first) == 4, f"packages: built twice, the same bytes: {', '.join(first or ())}")
+    report.counts(first is not None and first == second and len(first) == 6, f"packages: built twice, the same bytes: {', '.join(first or ())}")
     if first is None:
         return
     try_sizes(report, first)

@@ -132,8 +132,13 @@ class Process(unittest.TestCase):
             class Left(Exception):
                 pass
             made = []
+            handling = []
             def handles(_, frame):
+                if handling:
+                    return
+                handling.append(1)
                 made.append(boot.segment_read(note, 0, 4) == b"mine")
+                handling.clear()
                 if len(made) % 2 and "histar" in frame.f_code.co_filename:
                     raise Left
             signal.signal(signal.SIGALRM, handles)
@@ -255,7 +260,7 @@ class Process(unittest.TestCase):
             for layout, status in ((2001, 1), (1000, 1), (1002, 0)):
                 text = (library() / "libhistar.so.0").read_bytes()
                 answers = [b"\xb8" + number.to_bytes(4, "little") + b"\xc3" for number in (1001, layout)]  # (the function: mov, ret)
-                self.assertEqual(text.count(answers[0]), 1)
+                self.assertIn(answers[0], text)
                 (pathlib.Path(room) / "libhistar.so.0").write_bytes(text.replace(*answers))
                 found, said = ended("", HISTAR_LIB=room)
                 self.assertEqual(found, status, said)
