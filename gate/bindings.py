@@ -1,4 +1,4 @@
-"""The kernel as a library for C and Rust: it is built, and programs in bindings/ are compiled against it and run. The scripts
+"""The kernel as a library for C, Rust and Python: it is built, and programs in bindings/ are compiled against it and run. The scripts
 of examples/ print by them what is stored, and ./histar-audit finds the dumps of their logs clean; the scripts of the rules
 print what is stored of them; random scripts print what ./histar prints, leave the tables that its dump has, and dump what it
 dumps; random records leave the heap as it was; each row of the table of misuse is refused and changes nothing; threads share a
@@ -12,7 +12,7 @@ import shutil
 import subprocess
 import tempfile
 
-from gate import cluster, confine
+from gate import cluster, confine, python
 from gate.headers import unguarded, wrong
 from gate.plays import Script, ran, text
 from gate.rules import played_rules
@@ -28,6 +28,8 @@ FUZZ_SECONDS = int(os.environ.get("FUZZ_SECONDS", "60"))
 THREAD_SECONDS = int(os.environ.get("THREAD_SECONDS", "60"))
 WARNINGS = ["-Wall", "-Wextra", "-Wpedantic", "-Werror"]
 WRAPPED = "-Wl,--wrap=malloc,--wrap=realloc,--wrap=free"
+# Each function of the header is the library's then, and called.
+CALLED = ["-O0", "-w", *(f"-D{it}=extern inline __attribute__((gnu_inline))" for it in ("HISTAR_INLINE", "HISTAR_INTO_CALLER"))]
 MISUSE = ("misuse", "-pthread", f"{WRAPPED},--wrap=histar_layout")
 MANIFEST = ["--offline", "--manifest-path", "bindings/rust/Cargo.toml"]
 
@@ -284,6 +286,7 @@ class Bindings:
                 self.play([player], f"C by {compiler}")
                 self.play_rules([player], f"C by {compiler}")
                 self.play_random([player], f"C by {compiler}")
+            self.try_called(compiler)
         for compiler in ("g++", "clang++"):
             if shutil.which(compiler):
                 self.try_header(compiler, "c++17", "-x", "c++")
@@ -301,6 +304,16 @@ class Bindings:
             if login:
                 self.report.counts(ran(login) == (0, LOGIN), "C: a login gate")
         self.try_sanitizers()
+
+    def try_called(self, compiler):
+        """The library's own functions, as other languages call them."""
+        player = self.compile([compiler, "-std=gnu11"], "play", f"play-called-{compiler}", *CALLED)
+        if player:
+            self.play([player], f"C by {compiler}, called")
+            self.play_random([player], f"C by {compiler}, called")
+        misuse = self.compile([compiler, "-std=gnu11"], MISUSE[0], f"misuse-called-{compiler}", *CALLED, *MISUSE[1:])
+        if misuse:
+            self.counts(f"C by {compiler}, called: each row of the table of misuse is refused, and changes nothing", misuse)
 
     def try_memory(self, compiler):
         """Random records, and valgrind over the scripts."""
@@ -455,5 +468,6 @@ def try_all(report, tree="."):
     with tempfile.TemporaryDirectory(prefix="bindings-") as room:
         bindings = Bindings(report, f"{tree}/out/lib", room, built(tree, "histar"), built(tree, "histar_audit"))
         bindings.try_c()
+        python.try_all(bindings, program_in, LOGIN)
         bindings.try_rust()
     confine.try_all(report, f"{tree}/out/lib", built(tree, "histar_audit"), is_long=True)

@@ -180,12 +180,12 @@ def lay_programs(room, prefix, day):
     lay_about(room, "koalaingot")
 
 
-def shared_library(to):
+def shared_library(to, library=LIBRARY):
     """The library as one that is loaded: only its own functions are seen."""
     with tempfile.NamedTemporaryFile("w", suffix=".map") as names:
         names.write("{ global: histar_*; local: *; };\n")
         names.flush()
-        words = ["cc", "-shared", "-o", to, f"-Wl,-soname,{SONAME}", f"-Wl,--version-script={names.name}", "-Wl,--whole-archive", LIBRARY]
+        words = ["cc", "-shared", "-o", to, f"-Wl,-soname,{SONAME}", f"-Wl,--version-script={names.name}", "-Wl,--whole-archive", library]
         made_by(*words, "-Wl,--no-whole-archive", "-Wl,--build-id=none", "-Wl,-z,relro,-z,now")
 
 
