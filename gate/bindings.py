@@ -24,6 +24,7 @@ SESSIONS = 100_000
 LOGGED_SESSIONS = 2_000
 SHARED_CALLS = 10_000_000
 LOGGED_CALLS = 1_000_000
+CLIENTS = "160"
 FUZZ_SECONDS = int(os.environ.get("FUZZ_SECONDS", "60"))
 THREAD_SECONDS = int(os.environ.get("THREAD_SECONDS", "60"))
 WARNINGS = ["-Wall", "-Wextra", "-Wpedantic", "-Werror"]
@@ -259,9 +260,9 @@ class Bindings:
         if program:
             self.counts("C: a kernel that is closed leaves nothing of a secret in the process", program)
             self.report.counts(ran(program, "found")[0] == 1, "C: the search finds a copy that is left on purpose")
-        program = self.compile([compiler, "-std=gnu11"], "emptied.c", "emptied", *WARNINGS, "-Wl,--wrap=madvise")
+        program = self.compile([compiler, "-std=gnu11"], "emptied.c", "emptied", *WARNINGS, "-Wl,--wrap=madvise,--wrap=clock_gettime,--wrap=getpid")
         if program:
-            self.counts("C: a child of fork is refused where the system empties no page", program)
+            self.counts("C: a child of fork is refused where the system empties no page, and has a number of its own", program)
 
     def try_documented(self, language, compiler, *links):
         """The program of docs/EMBED.md in a language, compiled so, prints what the text below it says."""
@@ -389,8 +390,8 @@ class Bindings:
         if not service:
             return
         texts = [f"{self.room}/state", f"{self.room}/calls"]
-        said = [ran(service, *texts) for _ in range(3)]
-        self.report.counts(said == [(0, f"start {n}\n") for n in (1, 2, 3)], "C: a service comes back at its checkpoint")
+        said = [ran(service, *texts, CLIENTS) for _ in range(3)]
+        self.report.counts(said == [(0, f"start {n}\n") for n in (1, 2, 3)], f"C: a service with {CLIENTS} clients comes back at its checkpoint")
         if self.auditor:
             unclean = [it for it in texts if ran(self.auditor, it) != (0, "clean\n")]
             self.report.counts(not unclean, "./histar-audit finds its checkpoint and its log clean" + but_not(unclean))

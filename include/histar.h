@@ -474,7 +474,8 @@ static inline void histar_reads_no_more(histar *reader)
 
 /* Takes a kernel that a call left in place of giving it back, to close it. A function that is given a text may be in the middle, or never came
  * back: its call finds that the turn is over. A call that this thread is still in stands below the stack of who asks, but for a
- * handler with a stack of its own: so one that does not was left by a jump. */
+ * handler with a stack of its own: so one that does not was left by a jump. (A handler whose stack is a part of the thread's own, with
+ * SS_AUTODISARM, is not told from it: no handler may call.) */
 static inline uint32_t histar_taken_to_close(histar *k, uintptr_t stack, int *is_left)
 {
     uint32_t turn = __atomic_load_n(&k->turn, __ATOMIC_ACQUIRE);

@@ -1,12 +1,13 @@
 /* A service whose state outlives the process: it opens its kernel at the text of a file, counts one start more in a segment, and writes
  * the checkpoint. The first start has no file and makes the segment.
  *
- * comes_back STATE [DUMP]   STATE is the file; the dump of the start's calls is written to DUMP */
+ * comes_back STATE [DUMP CLIENTS]   STATE is the file; the dump of the start's calls is written to DUMP; so many clients come at the first start */
 #include "histar.h"
 #include <stdio.h>
 #include <stdlib.h>
 #include <unistd.h>
 
+enum { PAGES = 1024 };
 static histar k;
 
 static void must(uint32_t refusal)
@@ -22,20 +23,50 @@ static void fails(const char *what)
     exit(1);
 }
 
+/* All that a file has. */
+static char *reads(FILE *file, size_t *len)
+{
+    size_t room = 4096, some;
+    char *text = malloc(room);
+    for (*len = 0; text && (some = fread(text + *len, 1, room - *len, file)); *len += some) {
+        if (*len + some < room) continue;
+        room *= 2;
+        text = realloc(text, room);
+    }
+    if (!text || ferror(file)) fails("the checkpoint");
+    return text;
+}
+
 /* Opens the kernel at what the file has, or a new one where there is none. Tells whether it came back. */
 static int opens(const char *path)
 {
-    static char text[1 << 20];
     size_t len;
+    char *text;
     FILE *file = fopen(path, "rb");
     if (!file) {
-        must(histar_open(&k, 64));
+        must(histar_open(&k, PAGES));
         return 0;
     }
-    len = fread(text, 1, sizeof text, file);
+    text = reads(file, &len);
     if (fclose(file)) fails(path);
     must(histar_open_at(&k, text, len));
+    histar_wipes(text, len);
+    free(text);
     return 1;
+}
+
+/* A client of the service: a category, and a thread that owns it. */
+static void takes_a_client(void)
+{
+    histar_category category;
+    histar_label label = histar_level(1), clearance = histar_level(2), owner;
+    must(histar_cat_create(&k, HISTAR_BOOT, &category));
+    owner = histar_with(label, category, HISTAR_STAR);
+    clearance = histar_with(clearance, category, 3);
+    must(histar_thread_create(&k, HISTAR_BOOT, HISTAR_ROOT, &owner, 1, &clearance, 0, NULL));
+    must(histar_self_set_label(&k, HISTAR_BOOT, &label));
+    clearance = histar_level(2);
+    must(histar_self_set_clearance(&k, HISTAR_BOOT, &clearance));
 }
 
 /* Adds a part of a text to a file. */
@@ -62,6 +93,7 @@ int main(int count, char **given)
     must(histar_log_on(&k, UINT64_MAX, HISTAR_LOG_WRITES));
     if (!is_back) must(histar_segment_create(&k, HISTAR_BOOT, HISTAR_ROOT, &plain, 2, 1, &made));
     must(histar_segment_read(&k, HISTAR_BOOT, histar_in(HISTAR_ROOT, made), 0, &starts, 1));
+    for (int left = !is_back && count > 3 ? atoi(given[3]) : 0; left > 0; left--) takes_a_client();
     starts++;
     must(histar_segment_write(&k, HISTAR_BOOT, histar_in(HISTAR_ROOT, made), 0, &starts, 1));
     if (count > 2) saves(histar_dump_to, given[2]);

@@ -165,10 +165,12 @@ static void dumps(histar *seat, const char *folder, size_t number)
     snprintf(name, sizeof name, "%s/seat-%zu", folder, number);
     must(histar_dump(seat, NULL, 0, &needed) == HISTAR_BOUNDS, "the length of a dump was not told");
     text = malloc(needed);
-    file = fopen(name, "wb");
-    must(text && file, "no room for a dump");
+    must(text != NULL, "no room for a dump");
     done(histar_dump(seat, text, needed, &needed));
-    must(fwrite(text, 1, needed, file) == needed && !fclose(file), "a dump was not written");
+    file = fopen(name, "wb");
+    must(file != NULL, "no file for a dump");
+    needed -= fwrite(text, 1, needed, file);
+    must(!fclose(file) && !needed, "a dump was not written");
     free(text);
 }
 

@@ -38,21 +38,26 @@ static uint64_t *page_of_process(void)
     return page;
 }
 
-/* Gives this process a number that no other has had since the machine began; 0 where there is no memory for it. */
+/* Gives this process a number that no other has had since the machine began; 0 where there is no memory for it. Its nanosecond is spread over
+ * all bits, so that a later one with another process's number makes another number. */
 uint64_t histar_process_begins(void)
 {
     uint64_t *page = page_of_process(), number = 0, made;
     struct timespec since;
     if (!page) return 0;
     clock_gettime(CLOCK_BOOTTIME, &since);
-    made = ((uint64_t)since.tv_sec * 1000000000 + (uint64_t)since.tv_nsec) << 22 | ((uint64_t)getpid() & 0x3fffff);
+    made = ((uint64_t)since.tv_sec * 1000000000 + (uint64_t)since.tv_nsec) * UINT64_C(0x9e3779b97f4a7c15) + (uint64_t)getpid();
+    made += !made;
     return __atomic_compare_exchange_n(page, &number, made, 0, __ATOMIC_RELAXED, __ATOMIC_RELAXED) ? made : number;
 }
 
+/* The system tells so, but of a stack that is disarmed while it is used. A thread's own stack ends at the thread; that of the first thread is
+ * above all others. */
 int histar_is_on_signal_stack(void)
 {
     stack_t stack;
-    return sigaltstack(NULL, &stack) != 0 || (stack.ss_flags & SS_ONSTACK) != 0;
+    if (sigaltstack(NULL, &stack) != 0 || (stack.ss_flags & SS_ONSTACK) != 0) return 1;
+    return syscall(SYS_gettid) != getpid() && histar_stack() > histar_thread();
 }
 
 /* (a thread that is to end does not end in it) */

@@ -203,42 +203,42 @@ static void jumps_out(int signal)
     in_handler = (sig_atomic_t)is_called(&its);
     if (in_handler == HISTAR_BUSY) siglongjmp(out, 1);
 }
-/* Reads until a signal comes in the middle of one. */
-static uint32_t closed_after_a_jump_out_of_a_read(void)
+/* Opens a kernel and reads until a signal comes in the middle of a read, which its handler leaves. */
+static const struct itimerval often = {{0, 50}, {0, 50}}, never_again = {{0, 0}, {0, 0}};
+static void leaves_a_read(void)
 {
-    struct itimerval often = {{0, 50}, {0, 50}}, never_again = {{0, 0}, {0, 0}};
     histar_self self;
-    uint32_t refusal;
     must(histar_open(&its, 8));
     signal(SIGALRM, jumps_out);
     setitimer(ITIMER_REAL, &often, NULL);
     if (!sigsetjmp(out, 1))
         for (;;) must(histar_self_get(&its, HISTAR_BOOT, &self));
     setitimer(ITIMER_REAL, &never_again, NULL);
-    if (is_called(&its) != HISTAR_BUSY) return HISTAR_BUSY;
-    refusal = histar_close(&its);
+}
+static void opens_it_anew(void)
+{
     opens_its();
     must(histar_close(&its));
+}
+static uint32_t closed_after_a_jump_out_of_a_read(void)
+{
+    uint32_t refusal;
+    leaves_a_read();
+    if (is_called(&its) != HISTAR_BUSY) return HISTAR_BUSY;
+    refusal = histar_close(&its);
+    opens_it_anew();
     return refusal;
 }
 
 /* A copy of what a call left is closed, and takes nothing of it. */
 static uint32_t copy_closed_after_a_jump(void)
 {
-    struct itimerval often = {{0, 50}, {0, 50}}, never_again = {{0, 0}, {0, 0}};
-    histar_self self;
     uint32_t refusal;
-    must(histar_open(&its, 8));
-    signal(SIGALRM, jumps_out);
-    setitimer(ITIMER_REAL, &often, NULL);
-    if (!sigsetjmp(out, 1))
-        for (;;) must(histar_self_get(&its, HISTAR_BOOT, &self));
-    setitimer(ITIMER_REAL, &never_again, NULL);
+    leaves_a_read();
     memcpy(&other, &its, sizeof its);
     refusal = histar_close(&other);
     must(histar_close(&its));
-    opens_its();
-    must(histar_close(&its));
+    opens_it_anew();
     return refusal;
 }
 
@@ -402,13 +402,13 @@ static void logs(int signal)
 }
 static uint32_t logged_by_a_handler(void)
 {
-    struct itimerval often = {{0, 300}, {0, 300}}, never_again = {{0, 0}, {0, 0}};
+    const struct itimerval seldom = {{0, 300}, {0, 300}};
     lacked = made = closes_made = 0;
     opens_its();
     must(histar_open(&other, 8));
     must(histar_log_on(&other, UINT64_MAX, HISTAR_LOG_ALL));
     signal(SIGALRM, logs);
-    setitimer(ITIMER_REAL, &often, NULL);
+    setitimer(ITIMER_REAL, &seldom, NULL);
     for (int i = 0; i < 100 || (!(lacked && made) && i < 100000); i++) {
         must(histar_log_cut(&its, UINT64_MAX, HISTAR_LOG_ALL));
         must(reads(&its));
@@ -419,7 +419,11 @@ static uint32_t logged_by_a_handler(void)
     return lacked && made ? HISTAR_MEMORY : HISTAR_DONE;
 }
 
-/* A handler on a stack of its own, that stands above the interrupted call. */
+/* A handler on a stack of its own, that stands above the interrupted call. With SS_AUTODISARM the system says that there is none meanwhile. */
+#ifndef SS_AUTODISARM
+#define SS_AUTODISARM (1 << 31)
+#endif
+static int stack_flags;
 static volatile sig_atomic_t close_in_handler;
 static void closes_by_handler(int signal)
 {
@@ -428,7 +432,6 @@ static void closes_by_handler(int signal)
 }
 static void *closes_above(void *given)
 {
-    struct itimerval often = {{0, 50}, {0, 50}}, never_again = {{0, 0}, {0, 0}};
     struct sigaction action;
     stack_t above;
     histar_self self;
@@ -436,6 +439,7 @@ static void *closes_above(void *given)
     memset(&action, 0, sizeof action);
     above.ss_sp = given;
     above.ss_size = 1 << 16;
+    above.ss_flags = stack_flags;
     must((uint32_t)sigaltstack(&above, NULL));
     action.sa_handler = closes_by_handler;
     action.sa_flags = SA_ONSTACK;
@@ -464,6 +468,14 @@ static uint32_t closed_by_a_handler_above(void)
     must((uint32_t)munmap(room, 1 << 20));
     must(histar_close(&its));
     return told ? HISTAR_DONE : (uint32_t)close_in_handler;
+}
+static uint32_t closed_by_a_handler_above_disarmed(void)
+{
+    uint32_t refusal;
+    stack_flags = (int)SS_AUTODISARM;
+    refusal = closed_by_a_handler_above();
+    stack_flags = 0;
+    return refusal;
 }
 
 /* ---- What a log keeps, what a record keeps, and how much stack there is ---- */
@@ -623,6 +635,7 @@ const struct row LEFT[] = {
     {"a close in the call of another thread", HISTAR_BUSY, closed_in_another_threads_call},
     {"a logged call by a handler that interrupts the heap", HISTAR_MEMORY, logged_by_a_handler},
     {"a close by a handler on a stack above", HISTAR_BUSY, closed_by_a_handler_above},
+    {"a close by a handler with a stack above, of which the system says nothing", HISTAR_BUSY, closed_by_a_handler_above_disarmed},
     {"a log that keeps 2", HISTAR_BAD_BATCH, logged_otherwise},
     {"a log that is cut and keeps 2^64 - 1", HISTAR_BAD_BATCH, cut_otherwise},
     {"a label and a closure after calls", HISTAR_DONE, label_and_closure_after_calls},
