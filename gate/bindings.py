@@ -450,7 +450,19 @@ class Bindings:
             self.play(player, "Rust")
             self.play_rules(player, "Rust")
             self.play_random(player, "Rust")
+        self.try_serde(env)
         cluster.try_all(self.report, self.library, self.room, self.auditor)
+
+
+    def try_serde(self, env):
+        """The crate that writes names by serde, where Debian's packages of it are."""
+        if not glob.glob(f"{cluster.PACKAGES}/serde_json-*"):
+            self.leave_out("the crate histar-serde", "librust-serde-json-dev is not there")
+            return
+        folder = "bindings/rust/histar-serde"
+        words = ["sh", "-c", 'cd "$0" && exec cargo "$@"', folder]  # (the folder's own file says where packages are)
+        self.counts("cargo test: the crate histar-serde", *words, "test", "--quiet", "--offline", env=env)
+        self.counts("cargo doc of histar-serde without a warning", *words, "doc", "--quiet", "--offline", "--no-deps", env={**env, "RUSTDOCFLAGS": "-D warnings"})
 
 
 def built(tree, program):

@@ -12,6 +12,7 @@ PLACES = (
     ("bindings/rust/histar/Cargo.toml", r'^version = "([^"]*)"', WHOLE),
     ("bindings/rust/histar-cluster/Cargo.toml", r'^version = "([^"]*)"', WHOLE),
     ("bindings/rust/histar-etcd/Cargo.toml", r'^version = "([^"]*)"', WHOLE),
+    ("bindings/rust/histar-serde/Cargo.toml", r'^version = "([^"]*)"', WHOLE),
     ("bindings/python/pyproject.toml", r'^version = "([^"]*)"', WHOLE),
     ("bindings/python/src/histar/__init__.py", r'^__version__ = "([^"]*)"', WHOLE),
     ("CHANGELOG.md", r"^## (\S+)", WHOLE),

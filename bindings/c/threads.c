@@ -170,7 +170,8 @@ static void dumps(histar *seat, const char *folder, size_t number)
     file = fopen(name, "wb");
     must(file != NULL, "no file for a dump");
     needed -= fwrite(text, 1, needed, file);
-    must(!fclose(file) && !needed, "a dump was not written");
+    needed += (size_t)(fclose(file) != 0);
+    must(!needed, "a dump was not written");
     free(text);
 }
 

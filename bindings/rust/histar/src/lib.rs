@@ -19,6 +19,12 @@
 //! assert_eq!(stranger.unref(secret).unwrap_err().reason, Refusal::CannotModify);
 //! # Ok::<(), Refused>(())
 //! ```
+//!
+//! - [`Kernel`] opens a kernel, and [`Session`] makes the calls of one of its threads; [`Call`] is a call as a value, [`Reply`] its answer.
+//! - [`Label`] and [`label!`] make labels of [`Level`]s; [`Object`], [`Category`] and [`Entry`] name what calls are about.
+//! - [`Refused`] says which call was refused, and [`Refusal`] why.
+//! - [`Seat`], [`View`] and [`Reader`] are of a kernel that threads share; [`trusted`] is for what decides who calls.
+#![deny(rustdoc::broken_intra_doc_links)]
 
 mod bytes;
 mod call;
