@@ -1,7 +1,7 @@
 #!/usr/bin/env bash
-# Times calls of the kernel through C and through Rust, beside positional reads and writes of 64 bytes of a file in memory, and beside
+# Times calls of the kernel through C, Rust and Python, beside positional reads and writes of 64 bytes of a file in memory, and beside
 # a simple kernel in plain Rust (benches/simple). Of each row the least time of many short runs is told. Not a test: it ends zero
-# whatever the times are. It needs the library that ./lib builds, a C compiler, and cargo.
+# whatever the times are. It needs the library that ./lib builds, a C compiler, cargo, and Python.
 #
 # embed.sh   RUNS=400 may be set
 set -eu
@@ -22,6 +22,10 @@ echo "== through seats of a shared kernel"
 "$folder/shared"
 echo "== through Rust"
 RUNS=$runs HISTAR_LIB=$library cargo bench --quiet --offline --manifest-path "$top/bindings/rust/Cargo.toml" | grep ' ns$'
+echo 'local: *; };' | sed '1i { global: histar_*;' > "$folder/names"
+cc -shared -o "$folder/libhistar.so.0" "-Wl,--version-script=$folder/names,--whole-archive" "$library/libhistar.a" -Wl,--no-whole-archive,-z,now
+echo "== through Python, in microseconds"
+HISTAR_LIB=$folder PYTHONPATH=$top/bindings/python/src python3 -B "$top/bindings/python/tests/bench.py"
 echo "== the simple kernel, of 64 pages"
 for ((run = 0; run < 30; run++)); do
     "$top/benches/simple/target/release/simple" 64 56 1 1000
