@@ -31,7 +31,7 @@ extern "C" {
 #define ENDS _Noreturn
 #endif
 
-enum { MOST_CATEGORIES = 8, MOST_SECRETS = 8, MOST_REPORTS = 8, MOST_OPEN = 32, MOST_GATES = 8, MOST_WORDS = 16, MOST_RUNS = 16, MOST_PASSED = 64 };
+enum { MOST_CATEGORIES = 8, MOST_SECRETS = 8, MOST_REPORTS = 8, MOST_OPEN = 32, MOST_GATES = 8, MOST_WORDS = 16, MOST_RUNS = 16, MOST_PASSED = 64, MOST_FAULTS = 8, MOST_LINKS = 64 };
 
 /* The longest name of a category that a policy gives, or of a gate, in bytes. */
 enum { MOST_NAME = 31 };
@@ -64,7 +64,9 @@ struct report {
     struct levels levels;
     histar_object object;
     int file;        /* where it lies, by O_PATH */
-    int staged;      /* what gates have printed for it, until the end; -1 where none has */
+    int staged;      /* what gates have printed for it, or all that goes into a file of faults, until the end; -1 where there is none */
+    char *old;       /* what stood in it at the start, and how much; NULL where nothing did */
+    size_t old_size;
     int folder;      /* which of the plan's folders it stands in */
     bool is_refused; /* the program was refused it once */
 };
@@ -90,14 +92,21 @@ struct gate {
 
 enum { SHOWN = -1 };
 
+/* A link that a path of the plan goes through: the world has it too. */
+struct link {
+    char *path, *text, *real;
+};
+
 struct plan {
     struct category categories[MOST_CATEGORIES];
     struct secret secrets[MOST_SECRETS];
     struct report reports[MOST_REPORTS];
     struct folder folders[MOST_REPORTS];
+    struct report faults[MOST_FAULTS]; /* where errors go that nobody is shown */
     struct gate gates[MOST_GATES];
+    struct link links[MOST_LINKS];
     char open[MOST_OPEN][PATH_MAX]; /* folders that it may read at any label */
-    int category_count, secret_count, report_count, folder_count, gate_count, open_count;
+    int category_count, secret_count, report_count, faults_count, folder_count, gate_count, link_count, open_count;
     struct levels born, clearance; /* the program's label at its start, and the highest that it may have */
     const char *passed[MOST_PASSED]; /* names of the environment that the program is given too */
     int passed_count;
@@ -125,13 +134,16 @@ struct world {
 struct family {
     histar_object thread;
     unsigned long number;            /* its own */
-    struct levels levels;            /* its label */
+    struct levels levels, clearance; /* its label, and the highest that it may have */
     bool prints;                     /* what it prints may be shown */
     bool is_open[MOST_SECRETS];      /* it has the secret in its world */
     bool holds_report[MOST_REPORTS]; /* it was given the report to write, for good */
     bool holds_gate[MOST_GATES];     /* it was given a way to the gate, for good */
-    bool replaces[MOST_REPORTS];     /* it opened the report not only to add to it */
-    bool empties[MOST_REPORTS];      /* it opened the report as an empty one */
+    off_t old[MOST_REPORTS];         /* so much of what stood in the report before is in its world */
+    bool is_begun[MOST_REPORTS];     /* it opened the report before: what stands there is its own */
+    bool adds[MOST_REPORTS];         /* it opened the report to add to it, */
+    bool replaces[MOST_REPORTS];     /* not only to add to it, */
+    bool empties[MOST_REPORTS];      /* or as an empty one */
     struct world world;
 };
 
@@ -154,8 +166,17 @@ int add_category(struct plan *plan, const char *name);
 /* What the plan gets more, with the label of a plain thing. The word is where it was asked for. */
 struct secret *add_secret(struct plan *plan, const char *word, const char *path);
 struct report *add_report(struct plan *plan, const char *word, const char *path);
+struct report *add_faults(struct plan *plan, const char *word, const char *path);
 void add_open(struct plan *plan, const char *word, const char *path);
 struct gate *add_gate(struct plan *plan, const char *name);
+
+/* ---- links.c ---- */
+
+/* Notes each link that a path goes through. */
+void note_links(struct plan *plan, const char *word, const char *path);
+
+/* What a link of the plan leads to, by its path; NULL where that is none. */
+const char *link_at(const struct plan *plan, const char *path);
 
 /* ---- apart.c: what may not lie in what ---- */
 
@@ -204,6 +225,12 @@ bool opens_secret(struct plan *plan, struct family *family, int secret);
 /* Whether the program may write a report. Its label rises to what the report observes. From then on it has it, for good. */
 bool holds_report(struct plan *plan, struct family *family, int report);
 
+/* Whether the program observes a report, and so what stood in it before. */
+bool observes_report(const struct plan *plan, const struct family *family, int report);
+
+/* The first file of faults that the program may write, by a thread that it makes at the file's label; -1 where there is none. */
+int takes_faults(const struct plan *plan, const struct family *family);
+
 /* Whether the program may write to a gate: a thread at its label enters the gate, and may write what the gate writes. From
  * then on the program has it, for good. */
 bool enters_gate(struct plan *plan, struct family *family, int gate);
@@ -214,7 +241,7 @@ bool passes_gate(const struct plan *plan, const struct family *family, int gate)
 /* Whether what a gate's program makes may be shown, also where it goes to a report. */
 bool shows_gate(const struct plan *plan, int gate);
 
-/* Makes a thread for a program that another starts, at a label that is asked for: the other makes it. The refusal, or 0. */
+/* Makes a thread for a program that another starts, at a label and with the family's clearance: the other makes it. The refusal, or 0. */
 uint32_t is_spawned(const struct plan *plan, const struct family *by, const struct levels *levels, struct family *family);
 
 /* Makes the thread anew of a family that waited, and was let go meanwhile: whether it may be made was asked before. */
@@ -239,7 +266,7 @@ bool write_dump(const struct plan *plan);
 void explain_write(const struct plan *plan, struct report *report, const struct levels *own);
 void explain_gate(const struct plan *plan, struct gate *gate, const struct levels *own, const struct levels *behind);
 void explain_held(const struct plan *plan, const char *path, bool *is_refused, const char *held);
-void explain_clearance(const struct plan *plan, const char *path, bool *is_refused, const struct levels *levels);
+void explain_clearance(const struct plan *plan, const struct family *family, const char *path, bool *is_refused, const struct levels *levels);
 
 /* Once the program has ended: what was withheld, and a line for each thing that was refused and not explained. */
 void tell_refused(const struct plan *plan, bool prints);
@@ -258,13 +285,17 @@ struct begun {
 bool begin_start(const struct plan *plan, const struct begun *begun, struct world *world);
 void go_on(const struct world *world);
 
-/* Waits until the program waits for the first answer. Where that fails a line said why, and it gives the status that confine ends
+/* Waits until the program waits for its first step. Where that fails a line said why, and it gives the status that confine ends
  * with; else 0. */
 int end_start(struct world *world);
 
-/* The broker has done with a world; its keeper ends by itself, and is waited for then. */
+/* The program makes its first step, unless another process has it do so. */
+void begin_program(struct world *world, bool is_here);
+
+/* The broker has done with a world; its keeper ends by itself, and is waited for then, as are others that end by themselves. */
 void close_world(struct world *world);
-void reap_keepers(void);
+void note_ending(pid_t process);
+void reap_ended(void);
 
 /* Ends with ENDS_UNABLE and a line: this machine lacks something. */
 ENDS void unable(const char *what);
@@ -371,14 +402,22 @@ void kill_gates(int signal);
 
 /* ---- reports.c ---- */
 
-/* Each report by where it lies, so that no later name leads elsewhere. */
+/* Each report and file of faults by where it lies, so that no later name leads elsewhere. */
 void find_reports(struct plan *plan);
+
+/* Keeps what stands in each report, in case that a program may have it. */
+void keep_old(struct plan *plan);
 
 /* Notes the files that stand for the reports in a world that was just made. Whether all are there. */
 bool note_reports(const struct plan *plan, struct family *family);
 
-/* The program, which holds a report, opens it to write it, with these flags. */
-void begin_report(const struct plan *plan, struct family *family, int report, int flags);
+/* The program, which holds a report, opens it to write it, with these flags. An errno, 0 where it may. */
+int begin_report(const struct plan *plan, struct family *family, int report, int flags);
+
+/* Puts what stood in reports into a world whose program observes them. Where that is much another process of the broker's goes on
+ * here: true for that one, which answers the program in the broker's place and ends by end_bringing; and false for the broker. */
+bool bring_reports(const struct plan *plan, struct family *family);
+void end_bringing(void);
 
 /* Begins to keep what gates print for a report; and what leads to the end of it, or -1. */
 bool stage(struct report *report);
@@ -389,6 +428,24 @@ void leave_reports(struct plan *plan, struct family *family);
 
 /* Once all has ended: adds all that was kept to the reports. Whether all was written, as far as that may be told. */
 bool lay_reports(struct plan *plan);
+
+/* Puts a file in place of what another has, or adds it from a byte on. Whether all of it was written; with errno. */
+bool copy_out(const struct report *report, int file, bool replaces, off_t from);
+
+/* ---- faults.c: errors and ends that nobody is shown ---- */
+
+/* Begins a file of faults, which has room from then on. */
+void begin_faults(struct report *faults);
+
+/* Notes what a program printed as errors, or how it ended, where it may write that. */
+void note_errors(const struct plan *plan, const struct family *family, const char *text, size_t length);
+void note_end(const struct plan *plan, const struct family *family, int status);
+
+/* Adds a line to a file of faults of the plan. */
+void note_line(const struct plan *plan, int faults, const char *form, ...) __attribute__((format(printf, 3, 4)));
+
+/* Once all has ended: each file of faults has what was noted, and nothing else. Whether all was written, as far as that may be told. */
+bool lay_faults(const struct plan *plan, bool prints);
 
 /* ---- broker.c ---- */
 
@@ -439,6 +496,7 @@ struct stream {
     bool is_stuck;                         /* its writer's end may not be seen */
     bool is_dropped;                       /* some of it was */
     bool is_lost;                          /* what it leads to could not be written */
+    bool is_errors;                        /* it has the errors of its writer */
 };
 
 /* A stream from nowhere to nowhere; and back to that. */
@@ -477,13 +535,14 @@ struct request {
     char *bytes, **texts, **words;
     struct begun begun;
     int files[STREAMS];
+    const char *label, *most; /* the highest that it may have; "" where that is the asker's */
 };
 
 /* Takes what a socket has; NULL where that is no request. */
 struct request *read_request(int socket);
 void drop_request(struct request *request);
 
-/* A label as its categories, each with a level or at 3: "health,money=2". */
+/* A label as its categories, each with a level or at 3: "health,money=2"; or "none". */
 bool read_label(const struct plan *plan, const char *text, struct levels *levels);
 
 /* ---- programs.c, spawn.c: the program, and those that it starts at a label ---- */

@@ -30,7 +30,8 @@ static histar_label label_of(const struct plan *plan, const struct levels *level
 
 static histar_label plain_label(const struct plan *plan, const struct levels *levels) { return label_of(plan, levels, 1); }
 
-static histar_label clearance_of(const struct plan *plan) { return label_of(plan, &plan->clearance, 2); }
+/* The highest label that a thread may have: its family's, or the plan's. */
+static histar_label clearance_of(const struct plan *plan, const struct levels *levels) { return label_of(plan, levels, 2); }
 
 /* What a label has in a category. */
 static uint8_t level_in(const histar_label *label, histar_category category)
@@ -74,6 +75,8 @@ static histar_object make_segment(const struct plan *plan, const struct levels *
     return made;
 }
 
+void forget(histar_object object) { MUST(histar_unref(&kernel, HISTAR_BOOT, entry_of(object))); }
+
 /* A secret is a gate that nobody changes. Who enters it observes it, and comes out at its label, or above. */
 static void make_secret(struct plan *plan, struct secret *secret)
 {
@@ -87,7 +90,7 @@ static void make_secret(struct plan *plan, struct secret *secret)
 /* A gate at star in the categories that it owns. Whoever may know all that the program may know enters it. */
 static void make_gate(struct plan *plan, struct gate *gate)
 {
-    histar_label label = histar_level(1), clearance = clearance_of(plan);
+    histar_label label = histar_level(1), clearance = clearance_of(plan, &plan->clearance);
     for (int i = 0; i < plan->category_count; i++)
         if (gate->owns[i]) label = histar_with(label, plan->categories[i].category, HISTAR_STAR);
     MUST(histar_gate_create(&kernel, HISTAR_BOOT, HISTAR_ROOT, &label, 1, &clearance, HISTAR_NOWHERE, 0, 0, &gate->object));
@@ -111,11 +114,17 @@ static void make_category(struct plan *plan, struct category *category)
     if (plan->explains) fprintf(stderr, "confine: category #%llu is that of %s\n", (unsigned long long)category->category.number, category->name);
 }
 
+/* A thread of a label and a clearance; the refusal where the one is above the other. */
+static uint32_t make_cleared(const struct plan *plan, const histar_label *label, const struct levels *levels, histar_object *made)
+{
+    histar_label clearance = clearance_of(plan, levels);
+    return histar_thread_create(&kernel, HISTAR_BOOT, HISTAR_ROOT, label, 1, &clearance, 0, made);
+}
+
 static histar_object make_thread(const struct plan *plan, const histar_label *label)
 {
     histar_object made;
-    histar_label clearance = clearance_of(plan);
-    MUST(histar_thread_create(&kernel, HISTAR_BOOT, HISTAR_ROOT, label, 1, &clearance, 0, &made));
+    MUST(make_cleared(plan, label, &plan->clearance, &made));
     return made;
 }
 
@@ -128,6 +137,8 @@ void make_objects(struct plan *plan)
     for (int i = 0; i < plan->secret_count; i++) make_secret(plan, &plan->secrets[i]);
     for (int i = 0; i < plan->report_count; i++)
         plan->reports[i].object = make_segment(plan, &plan->reports[i].levels, plan->reports[i].path);
+    for (int i = 0; i < plan->faults_count; i++)
+        plan->faults[i].object = make_segment(plan, &plan->faults[i].levels, plan->faults[i].path);
     for (int i = 0; i < plan->gate_count; i++) make_gate(plan, &plan->gates[i]);
     terminal = make_segment(plan, &plain, "what is printed");
 }
@@ -137,14 +148,14 @@ static uint32_t would_write(const struct plan *plan, const histar_label *label, 
 {
     histar_object probe = make_thread(plan, label);
     uint32_t refusal = writes(probe, object);
-    MUST(histar_unref(&kernel, HISTAR_BOOT, entry_of(probe)));
+    forget(probe);
     return refusal;
 }
 
 /* A thread enters a gate, with its label but for what the gate owns: that it owns from then on. The refusal, if it may not. */
 static uint32_t enter(const struct plan *plan, const struct gate *gate, histar_object thread, const histar_label *own)
 {
-    histar_label label, clearance = clearance_of(plan), verify = histar_level(HIGHEST);
+    histar_label label, clearance = clearance_of(plan, &plan->clearance), verify = histar_level(HIGHEST);
     struct levels levels;
     for (int i = 0; i < plan->category_count; i++)
         levels.in[i] = gate->owns[i] ? HISTAR_STAR : level_in(own, plan->categories[i].category);
@@ -163,7 +174,7 @@ static bool gets_through(const struct plan *plan, const struct gate *gate, const
 {
     histar_object thread = make_thread(plan, label);
     bool is_through = !enter(plan, gate, thread, label) && !writes(thread, object);
-    MUST(histar_unref(&kernel, HISTAR_BOOT, entry_of(thread)));
+    forget(thread);
     return is_through;
 }
 
@@ -177,10 +188,13 @@ static const char *held_below(const struct plan *plan, const struct family *fami
     return NULL;
 }
 
-static bool is_cleared(const struct plan *plan, const struct levels *levels)
+/* Whether a thread of the program's clearance may have its label, risen to these levels: one is made for that, and goes again. */
+static bool is_cleared(const struct plan *plan, const struct family *family, const struct levels *levels)
 {
-    for (int i = 0; i < plan->category_count; i++)
-        if (levels->in[i] > plan->clearance.in[i]) return false;
+    histar_label label = risen(plan, family, levels);
+    histar_object probe;
+    if (make_cleared(plan, &label, &family->clearance, &probe)) return false;
+    forget(probe);
     return true;
 }
 
@@ -189,7 +203,7 @@ static bool may_rise(const struct plan *plan, const struct family *family, const
 {
     histar_label label = risen(plan, family, levels);
     const char *held;
-    if (!is_cleared(plan, levels)) explain_clearance(plan, path, is_refused, levels);
+    if (!is_cleared(plan, family, levels)) explain_clearance(plan, family, path, is_refused, levels);
     else if ((held = held_below(plan, family, &label))) explain_held(plan, path, is_refused, held);
     else return true;
     return false;
@@ -206,18 +220,18 @@ bool is_born(struct plan *plan, struct family *family)
 {
     struct levels plain = {{1, 1, 1, 1, 1, 1, 1, 1}};
     histar_label label = plain_label(plan, &plain);
-    if (!is_cleared(plan, &plan->born)) return false;
+    family->clearance = plan->clearance;
     family->thread = make_thread(plan, &label);
     tell_id(plan, family->thread, "the program");
     label = plain_label(plan, &plan->born);
-    MUST(histar_self_set_label(&kernel, family->thread, &label));
+    if (histar_self_set_label(&kernel, family->thread, &label)) return false;
     note_label(plan, family);
     return true;
 }
 
 uint32_t is_spawned(const struct plan *plan, const struct family *by, const struct levels *levels, struct family *family)
 {
-    histar_label label = plain_label(plan, levels), clearance = clearance_of(plan);
+    histar_label label = plain_label(plan, levels), clearance = clearance_of(plan, &family->clearance);
     uint32_t refusal = histar_thread_create(&kernel, by->thread, HISTAR_ROOT, &label, 1, &clearance, 0, &family->thread);
     if (refusal) return refusal;
     tell_id(plan, family->thread, "a program that it started");
@@ -228,7 +242,7 @@ uint32_t is_spawned(const struct plan *plan, const struct family *by, const stru
 void spawn_again(const struct plan *plan, struct family *family)
 {
     histar_label label = plain_label(plan, &family->levels);
-    family->thread = make_thread(plan, &label);
+    MUST(make_cleared(plan, &label, &family->clearance, &family->thread));
     tell_id(plan, family->thread, "a program that it started");
 }
 
@@ -236,8 +250,6 @@ histar_object make_between(const struct plan *plan, const struct levels *levels)
 {
     return make_segment(plan, levels, "what a program gives to another");
 }
-
-void forget(histar_object object) { MUST(histar_unref(&kernel, HISTAR_BOOT, entry_of(object))); }
 
 bool writes_between(const struct family *writer, histar_object between) { return !writes(writer->thread, between); }
 
@@ -254,7 +266,7 @@ static void write_held(const struct plan *plan, struct family *family)
 bool opens_secret(struct plan *plan, struct family *family, int i)
 {
     struct secret *secret = &plan->secrets[i];
-    histar_label label = risen(plan, family, &secret->levels), clearance = clearance_of(plan), verify = histar_level(HIGHEST);
+    histar_label label = risen(plan, family, &secret->levels), clearance = clearance_of(plan, &family->clearance), verify = histar_level(HIGHEST);
     if (!may_rise(plan, family, &secret->levels, secret->path, &secret->is_refused)) return false;
     MUST(histar_gate_enter(&kernel, family->thread, entry_of(secret->object), &label, &clearance, &verify, NULL, NULL));
     write_held(plan, family);
@@ -278,7 +290,7 @@ bool holds_report(struct plan *plan, struct family *family, int i)
     struct report *report = &plan->reports[i];
     histar_label label = risen(plan, family, &report->levels);
     struct levels own = own_levels(plan, family);
-    if (is_cleared(plan, &report->levels) && would_write(plan, &label, report->object)) {
+    if (is_cleared(plan, family, &report->levels) && would_write(plan, &label, report->object)) {
         explain_write(plan, report, &own);
         return false;
     }
@@ -286,6 +298,23 @@ bool holds_report(struct plan *plan, struct family *family, int i)
     MUST(writes(family->thread, report->object));
     family->holds_report[i] = true;
     return true;
+}
+
+bool observes_report(const struct plan *plan, const struct family *family, int i) { return !reads(family->thread, plan->reports[i].object); }
+
+/* The program's thread makes another, as high as the file's label, which writes it. */
+int takes_faults(const struct plan *plan, const struct family *family)
+{
+    for (int i = 0; i < plan->faults_count; i++) {
+        histar_label label = risen(plan, family, &plan->faults[i].levels);
+        histar_object thread;
+        bool is_written;
+        if (make_cleared(plan, &label, &family->clearance, &thread)) continue;
+        is_written = !writes(thread, plan->faults[i].object);
+        forget(thread);
+        if (is_written) return i;
+    }
+    return -1;
 }
 
 bool enters_gate(struct plan *plan, struct family *family, int i)

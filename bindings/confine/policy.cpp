@@ -148,6 +148,18 @@ void take_write(const Reading &reading, const toml::node &node)
     take_levels(reading, table, "label", 0, report->levels);
 }
 
+/* Errors that are shown need no file. */
+void take_faults(const Reading &reading, const toml::node &node)
+{
+    const toml::table &table = table_of(reading, node);
+    has_only(reading, table, {"file", "label"});
+    report *faults = add_faults(reading.into, place_of(reading, node).c_str(), path_in(reading, table, "file").c_str());
+    take_levels(reading, table, "label", 0, faults->levels);
+    for (int i = 0; i < reading.into->category_count; i++)
+        if (faults->levels.in[i] > 1) return;
+    fault(reading, node, "a label above 1 is wanted: other errors are shown");
+}
+
 void take_program(const Reading &reading, const toml::table &policy)
 {
     const toml::node *node = policy.get("program");
@@ -257,10 +269,11 @@ std::string text_of_file(const char *path)
 
 void take_all(const Reading &reading, const toml::table &policy)
 {
-    has_only(reading, policy, {"categories", "read", "write", "public", "program", "gate"});
+    has_only(reading, policy, {"categories", "read", "write", "faults", "public", "program", "gate"});
     each(reading, policy, "categories", [&](const toml::node &it) { take_category(reading, it); });
     each(reading, policy, "read", [&](const toml::node &it) { take_read(reading, it); });
     each(reading, policy, "write", [&](const toml::node &it) { take_write(reading, it); });
+    each(reading, policy, "faults", [&](const toml::node &it) { take_faults(reading, it); });
     each(reading, policy, "public", [&](const toml::node &it) {
         std::filesystem::path path = text_of(reading, it);
         if (!path.is_absolute()) path = std::filesystem::path(reading.file).parent_path() / path;

@@ -110,6 +110,7 @@ static void make_streams(struct plan *plan, struct program *program)
         *stream = no_stream();
         stream->plan = plan;
         stream->kind = BETWEEN;
+        stream->is_errors = i == 2;
         stream->writer = i ? program->family : program->by;
         stream->reader = i ? program->by : program->family;
         stream->forth = i ? program->out : program->in;
@@ -197,9 +198,12 @@ void begin_waiting(struct plan *plan)
 static const char *make(struct plan *plan, struct program *program)
 {
     static char line[128];
+    const struct request *request = program->request;
     struct levels levels;
     uint32_t refusal;
-    if (!read_label(plan, program->request->texts[0], &levels)) return "no such label";
+    program->family->clearance = program->by->clearance;
+    if (!read_label(plan, request->label, &levels)) return "no such label";
+    if (*request->most && !read_label(plan, request->most, &program->family->clearance)) return "no such label";
     if (are_most_made()) return "no place";
     if (!ready(program)) return "a stream is no pipe, socket or file";
     if ((refusal = is_spawned(plan, program->by, &levels, program->family))) {

@@ -106,7 +106,11 @@ void take(struct stream *stream)
     if (count <= 0) {
         close_end(&stream->from);
         stream->is_stuck = !stream->is_cut && stream->kind == BETWEEN && !may_write(stream);
-    } else if (is_kept && !stream->is_cut && may_write(stream)) stream->count += (size_t)count;
+        end_if_empty(stream);
+        return;
+    }
+    if (stream->is_errors && stream->writer) note_errors(stream->plan, stream->writer, is_kept ? stream->text + stream->count : lost, (size_t)count);
+    if (is_kept && !stream->is_cut && may_write(stream)) stream->count += (size_t)count;
     else stream->is_dropped = true;
     end_if_empty(stream);
 }
