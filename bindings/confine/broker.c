@@ -137,7 +137,7 @@ static int open_report(struct plan *plan, struct family *family, int i, const st
 static int open_gate(struct plan *plan, struct family *family, int i, int flags)
 {
     errno = (flags & O_CREAT) && (flags & O_EXCL) ? EEXIST : EACCES;
-    if (errno == EEXIST || (flags & O_ACCMODE) == O_RDWR || !enters_gate(plan, family, i)) return -1;
+    if (errno == EEXIST || ((flags & O_ACCMODE) == O_RDWR && !plan->gates[i].answers) || !enters_gate(plan, family, i, family)) return -1;
     return open_way(plan, family, i);
 }
 

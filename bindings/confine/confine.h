@@ -79,13 +79,14 @@ struct folder {
 };
 
 /* A gate: a program outside, which is trusted with what some categories keep. It reads what is written to /gate/NAME, and
- * what it prints goes to a report, or is shown. */
+ * what it prints goes to a report, to who opened it, or is shown. */
 struct gate {
     char name[MOST_NAME + 1];
     char words[MOST_WORDS][PATH_MAX]; /* the program and its arguments */
     int word_count;
     bool owns[MOST_CATEGORIES];
     int report; /* SHOWN where it has none */
+    bool answers;
     histar_object object;
     bool is_refused; /* the program was refused it once */
 };
@@ -139,6 +140,8 @@ struct family {
     bool is_open[MOST_SECRETS];      /* it has the secret in its world */
     bool holds_report[MOST_REPORTS]; /* it was given the report to write, for good */
     bool holds_gate[MOST_GATES];     /* it was given a way to the gate, for good */
+    histar_object answers[MOST_GATES]; /* what a gate answers it is written to, */
+    histar_object lent[MOST_GATES];    /* and what is answered to who has lent it a way */
     off_t old[MOST_REPORTS];         /* so much of what stood in the report before is in its world */
     bool is_begun[MOST_REPORTS];     /* it opened the report before: what stands there is its own */
     bool adds[MOST_REPORTS];         /* it opened the report to add to it, */
@@ -231,15 +234,19 @@ bool observes_report(const struct plan *plan, const struct family *family, int r
 /* The first file of faults that the program may write, by a thread that it makes at the file's label; -1 where there is none. */
 int takes_faults(const struct plan *plan, const struct family *family);
 
-/* Whether the program may write to a gate: a thread at its label enters the gate, and may write what the gate writes. From
- * then on the program has it, for good. */
-bool enters_gate(struct plan *plan, struct family *family, int gate);
+/* Whether the program may write to a gate, whose answer another may get, or itself: a thread at its label enters the gate, and may
+ * write what the gate writes. From then on the program has it, for good. */
+bool enters_gate(struct plan *plan, struct family *family, int gate, const struct family *answered);
 
-/* Whether a piece that the program writes to a gate gets through it now. */
-bool passes_gate(const struct plan *plan, const struct family *family, int gate);
+/* What a gate writes, whose answer a family gets. */
+histar_object behind_gate(const struct plan *plan, int gate, const struct family *answered);
 
-/* Whether what a gate's program makes may be shown, also where it goes to a report. */
-bool shows_gate(const struct plan *plan, int gate);
+/* Whether a piece that a program of these levels writes to a gate gets through it to what the gate writes; and so whether the gate,
+ * which has such pieces, may write there. */
+bool passes_gate(const struct plan *plan, const struct levels *levels, int gate, histar_object behind);
+
+/* Whether what a gate's program makes of pieces of these levels may be shown, also where it goes to a report or is an answer. */
+bool shows_gate(const struct plan *plan, int gate, const struct levels *levels);
 
 /* Makes a thread for a program that another starts, at a label and with the family's clearance: the other makes it. The refusal, or 0. */
 uint32_t is_spawned(const struct plan *plan, const struct family *by, const struct levels *levels, struct family *family);
@@ -250,8 +257,9 @@ void spawn_again(const struct plan *plan, struct family *family);
 /* A new object of a label, which one family writes and another reads. */
 histar_object make_between(const struct plan *plan, const struct levels *levels);
 
-/* An object or a thread goes. */
+/* An object or a thread goes; and what gates answered to a family. */
 void forget(histar_object object);
+void forget_answers(struct family *family);
 
 /* Whether a family may write what is between it and another, and read it. */
 bool writes_between(const struct family *writer, histar_object between);
@@ -380,11 +388,16 @@ bool is_same(int one, int other);
 /* What leads a family to a gate, to be handed out; -1 with errno. A family has at most MOST_RUNS of them. */
 int open_way(struct plan *plan, const struct family *family, int gate);
 
-/* The gate that a family's descriptor leads to, which is given to another from now on; -1 where it leads to none. */
-int lend_way(const struct family *family, int file);
+/* The gate that a family's descriptor leads to, which is given to another from now on; -1 where it leads to none. And the number of
+ * the way. */
+int lend_way(const struct family *family, int file, unsigned long *number);
 
-/* Starts a gate's program for a family, and gives what leads to its input; -1 with errno. */
-int begin_gate(struct plan *plan, const struct family *family, int gate);
+/* Starts a gate's program for a family, and gives what leads to its input; -1 with errno. What it answers goes back by the way of this
+ * number to who was given that. */
+int begin_gate(struct plan *plan, const struct family *family, int gate, unsigned long way);
+
+/* A family is at its end: no gate answers it. */
+void end_answers(const struct family *family);
 
 /* Whether something that a family wrote may be on its way. */
 bool has_ways(const struct family *family);
@@ -483,14 +496,15 @@ enum { STREAMS = 3 };
  * that the reader ends, or how fast it takes, is a write of the reader's and a read of the writer's. */
 struct stream {
     const struct plan *plan;
-    enum { TYPED, PRINTED, BETWEEN, TO_GATE } kind; /* from outside, to outside, from one family to another, or through a gate */
+    enum { TYPED, PRINTED, BETWEEN, TO_GATE, ANSWERED } kind; /* from outside, to outside, from one family to another, through a gate, or back */
     int gate;
     char *text;
     size_t size, count, begin;
     int from, to;                          /* -1 once it is at its end */
     int from_place, to_place;
     const struct family *writer, *reader;  /* NULL where it is outside, or has ended */
-    histar_object forth, back;             /* between two families: what the writer writes, and what the reader writes */
+    histar_object forth, back;             /* between two families: what the writer writes, and what the reader writes; or behind a gate */
+    struct levels given;                   /* the highest that a gate which answers was given */
     bool is_held;                          /* its reader may not have it: it waits for another */
     bool is_cut;                           /* its writer may not write it any more */
     bool is_stuck;                         /* its writer's end may not be seen */
@@ -566,7 +580,8 @@ struct program {
     int socket_place, own_place, call_place;
     struct stream streams[STREAMS];
     int pins[STREAMS];            /* the pipes of the asker's that they lead to, or -1 */
-    int gates[STREAMS];           /* the gates, or -1 */
+    int gates[STREAMS];           /* the gates, or -1; and the ways */
+    unsigned long ways[STREAMS];
     histar_object in, out;        /* what is between the asker and what was started */
     struct levels by_levels;      /* the asker's label as he asked */
     bool is_hidden, is_killed, is_served; /* in this round */

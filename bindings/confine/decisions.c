@@ -77,6 +77,14 @@ static histar_object make_segment(const struct plan *plan, const struct levels *
 
 void forget(histar_object object) { MUST(histar_unref(&kernel, HISTAR_BOOT, entry_of(object))); }
 
+void forget_answers(struct family *family)
+{
+    for (int i = 0; i < MOST_GATES; i++) {
+        if (family->answers[i].id) forget(family->answers[i]);
+        family->answers[i] = HISTAR_NOTHING;
+    }
+}
+
 /* A secret is a gate that nobody changes. Who enters it observes it, and comes out at its label, or above. */
 static void make_secret(struct plan *plan, struct secret *secret)
 {
@@ -128,10 +136,18 @@ static histar_object make_thread(const struct plan *plan, const histar_label *la
     return made;
 }
 
+/* (Each program may have two more pages for each gate that answers.) */
+static uint64_t pages_of(const struct plan *plan)
+{
+    uint64_t pages = PAGES;
+    for (int i = 0; i < plan->gate_count; i++) pages += plan->gates[i].answers ? 2 * (MOST_MADE + 1) : 0;
+    return pages;
+}
+
 void make_objects(struct plan *plan)
 {
     struct levels plain = {{1, 1, 1, 1, 1, 1, 1, 1}};
-    MUST(histar_open(&kernel, PAGES));
+    MUST(histar_open(&kernel, pages_of(plan)));
     if (plan->dump) MUST(histar_log_on(&kernel, UINT64_MAX, HISTAR_LOG_WRITES));
     for (int i = 0; i < plan->category_count; i++) make_category(plan, &plan->categories[i]);
     for (int i = 0; i < plan->secret_count; i++) make_secret(plan, &plan->secrets[i]);
@@ -163,9 +179,10 @@ static uint32_t enter(const struct plan *plan, const struct gate *gate, histar_o
     return histar_gate_enter(&kernel, thread, entry_of(gate->object), &label, &clearance, &verify, NULL, NULL);
 }
 
-/* What a gate writes. */
-static histar_object behind(const struct plan *plan, const struct gate *gate)
+histar_object behind_gate(const struct plan *plan, int i, const struct family *answered)
 {
+    const struct gate *gate = &plan->gates[i];
+    if (gate->answers) return answered->answers[i];
     return gate->report == SHOWN ? terminal : plan->reports[gate->report].object;
 }
 
@@ -178,13 +195,22 @@ static bool gets_through(const struct plan *plan, const struct gate *gate, const
     return is_through;
 }
 
+/* Whether the program holds a gate and may not get through it at this label. */
+static bool is_gate_below(const struct plan *plan, const struct family *family, const histar_label *label, int i)
+{
+    const struct gate *gate = &plan->gates[i];
+    if (!family->holds_gate[i]) return false;
+    if (family->lent[i].id && !gets_through(plan, gate, label, family->lent[i])) return true;
+    return (!gate->answers || family->answers[i].id) && !gets_through(plan, gate, label, behind_gate(plan, i, family));
+}
+
 /* The name of the first report or gate that the program holds and may not write at this label, or NULL. */
 static const char *held_below(const struct plan *plan, const struct family *family, const histar_label *label)
 {
     for (int i = 0; i < plan->report_count; i++)
         if (family->holds_report[i] && would_write(plan, label, plan->reports[i].object)) return plan->reports[i].path;
     for (int i = 0; i < plan->gate_count; i++)
-        if (family->holds_gate[i] && !gets_through(plan, &plan->gates[i], label, behind(plan, &plan->gates[i]))) return plan->gates[i].name;
+        if (is_gate_below(plan, family, label, i)) return plan->gates[i].name;
     return NULL;
 }
 
@@ -317,31 +343,43 @@ int takes_faults(const struct plan *plan, const struct family *family)
     return -1;
 }
 
-bool enters_gate(struct plan *plan, struct family *family, int i)
+/* What a gate answers is written at the label that the program has when it first opens it. */
+static void make_answers(const struct plan *plan, struct family *family, int i)
+{
+    if (plan->gates[i].answers && !family->answers[i].id) family->answers[i] = make_segment(plan, &family->levels, "what a gate answers");
+}
+
+bool enters_gate(struct plan *plan, struct family *family, int i, const struct family *answered)
 {
     struct gate *gate = &plan->gates[i];
     struct levels own = own_levels(plan, family), most = {{1, 1, 1, 1, 1, 1, 1, 1}};
     histar_label label = plain_label(plan, &own);
-    if (gets_through(plan, gate, &label, behind(plan, gate))) return family->holds_gate[i] = true;
-    if (gate->report != SHOWN) most = plan->reports[gate->report].levels;
+    if (answered == family) make_answers(plan, family, i);
+    if (gets_through(plan, gate, &label, behind_gate(plan, i, answered))) {
+        if (gate->answers && answered != family) family->lent[i] = answered->answers[i];
+        return family->holds_gate[i] = true;
+    }
+    if (gate->answers) most = answered->levels;
+    else if (gate->report != SHOWN) most = plan->reports[gate->report].levels;
     for (int j = 0; j < plan->category_count; j++)
         if (gate->owns[j]) most.in[j] = HIGHEST;
     explain_gate(plan, gate, &own, &most);
     return false;
 }
 
-bool passes_gate(const struct plan *plan, const struct family *family, int i)
+bool passes_gate(const struct plan *plan, const struct levels *levels, int i, histar_object behind)
 {
-    histar_label label = plain_label(plan, &family->levels);
-    return gets_through(plan, &plan->gates[i], &label, behind(plan, &plan->gates[i]));
+    histar_label label = plain_label(plan, levels);
+    return gets_through(plan, &plan->gates[i], &label, behind);
 }
 
 /* A thread as high as any that gets to what the gate writes is asked for. */
-bool shows_gate(const struct plan *plan, int i)
+bool shows_gate(const struct plan *plan, int i, const struct levels *levels)
 {
     const struct gate *gate = &plan->gates[i];
     struct levels highest = plan->clearance;
     histar_label label;
+    if (gate->answers) return passes_gate(plan, levels, i, terminal);
     if (gate->report == SHOWN) return true;
     for (int j = 0; j < plan->category_count; j++)
         if (plan->reports[gate->report].levels.in[j] < highest.in[j]) highest.in[j] = plan->reports[gate->report].levels.in[j];

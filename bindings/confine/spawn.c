@@ -52,7 +52,7 @@ static bool ready(struct program *program)
     int *files = program->request->files;
     for (int i = 0; i < STREAMS; i++) {
         int made = -1;
-        if (i) program->gates[i] = lend_way(program->by, files[i]);
+        if (i) program->gates[i] = lend_way(program->by, files[i], &program->ways[i]);
         if (program->gates[i] < 0) {
             program->pins[i] = is_pipe(files[i]) ? pin(files[i]) : -1;
             made = unblocked(files[i], i ? O_WRONLY : O_RDONLY);
@@ -92,12 +92,13 @@ static void join_all(struct program *program)
 }
 
 /* What leads to a gate goes through it as this program. */
-static void lead_to_gate(struct plan *plan, struct program *program, struct stream *stream, int gate)
+static void lead_to_gate(struct plan *plan, struct program *program, struct stream *stream, int i)
 {
     stream->kind = TO_GATE;
-    stream->gate = gate;
+    stream->gate = program->gates[i];
     stream->reader = NULL;
-    if (enters_gate(plan, program->family, gate)) stream->to = begin_gate(plan, program->family, gate);
+    stream->forth = behind_gate(plan, stream->gate, program->by);
+    if (enters_gate(plan, program->family, stream->gate, program->by)) stream->to = begin_gate(plan, program->family, stream->gate, program->ways[i]);
 }
 
 /* Its streams, between the world that was made and the descriptors of who asked. */
@@ -117,7 +118,7 @@ static void make_streams(struct plan *plan, struct program *program)
         stream->back = i ? program->in : program->out;
         stream->from = i ? world->printed[i - 1] : file;
         stream->to = i ? file : world->input;
-        if (program->gates[i] >= 0) lead_to_gate(plan, program, stream, program->gates[i]);
+        if (program->gates[i] >= 0) lead_to_gate(plan, program, stream, i);
         else if (i && program->is_hidden) hold(stream);
         else settle(stream);
         if (stream->to < 0 && !stream->is_held) end_reader(stream);
