@@ -13,7 +13,7 @@ import subprocess
 import tempfile
 import time
 
-from gate import confine_attacks, confine_ends, confine_programs, confine_wrong
+from gate import confine_attacks, confine_ends, confine_kept, confine_programs, confine_wrong
 from gate.confine_scenes import BY_POLICY, ONE, OWN, POLICY, POLICY_SCENES, PUBLIC, SCENES, SECOND, SECRET, TWO, Scene
 from gate.confine_seen import Watched
 from gate.documents import commands_in
@@ -26,7 +26,7 @@ USAGE, UNABLE = 2, 69
 
 # The status of what was ended since it did not end by itself.
 ENDLESS = -signal.SIGKILL
-ATTACKS = (*confine_attacks.REPORTS, *confine_attacks.OUTSIDE, *confine_attacks.INODES, *confine_attacks.MEANS, *confine_attacks.HELD, *confine_attacks.LABELS, *confine_attacks.STARTS, *confine_ends.ALL)
+ATTACKS = (*confine_attacks.REPORTS, *confine_attacks.OUTSIDE, *confine_attacks.INODES, *confine_attacks.MEANS, *confine_attacks.HELD, *confine_attacks.LABELS, *confine_attacks.STARTS, *confine_ends.ALL, *confine_kept.ALL)
 
 # An ordinary user's number, as which root plays scenes too.
 NOBODY = 65534
@@ -89,7 +89,7 @@ class Rooms:
     """The folders and files of a scene, made anew, for a user."""
 
     def __init__(self, room, user=0):
-        self.names = {"S": "secret", "T": "second", "P": "public", "O": "own", "R": "report", "U": "report2", "Q": "open", "F": "policy", "H": ""}
+        self.names = {"S": "secret", "T": "second", "P": "public", "O": "own", "R": "report", "U": "report2", "Q": "open", "E": "errors", "F": "policy", "H": "", "L": "link", "N": "near"}
         self.paths = {name: f"{room}/{path}".rstrip("/") for name, path in self.names.items()}
         self.paths["M"] = f"/tmp/{os.path.basename(os.path.dirname(room))}"
         self.user = user
@@ -103,7 +103,9 @@ class Rooms:
         self.put("O", "own", OWN)
         for name in "PM":
             os.mkfifo(f"{self.paths[name]}/pipe")
-        for name in "RUQ":
+        os.symlink(self.paths["H"], self.paths["L"])
+        os.symlink("secret", self.paths["N"])
+        for name in "RUQE":
             os.close(os.open(self.paths[name], os.O_CREAT | os.O_WRONLY, 0o600))
         self.give()
         self.readers = [os.open(f"{self.paths[name]}/pipe", os.O_RDONLY | os.O_NONBLOCK) for name in "PM"]
@@ -135,7 +137,7 @@ class Rooms:
             it.write(text + "\n")
 
     def words(self, words):
-        return [self.paths[it[1:]] if it.startswith("$") else it for it in words]
+        return [self.paths[it[1]] + it[2:] if it.startswith("$") else it for it in words]
 
     def read(self, name, file=""):
         path = os.path.join(self.paths[name], file) if file else self.paths[name]
@@ -199,7 +201,7 @@ class Play:
             self.watched.end()
 
     def reports(self):
-        return tuple(self.rooms.read(it) for it in "RUQ")
+        return tuple(self.rooms.read(it) for it in "RUQE")
 
     def wrong(self):
         """What is wrong with how a scene ended in confine, or nothing."""
@@ -208,7 +210,8 @@ class Play:
             wrong.append(f"printed {self.done.stdout!r}")
         if self.done.returncode == ENDLESS or (scene.status is not None and self.done.returncode != scene.status):
             wrong.append(f"status {self.done.returncode} {self.done.stderr}")
-        wanted = (scene.report + (NOTE if scene.leaks and scene.is_noted else ""), scene.second, scene.open)
+        faults = scene.faults and scene.faults.replace("$R", self.rooms.paths["R"])
+        wanted = (scene.report + (NOTE if scene.leaks and scene.is_noted else ""), scene.second, scene.open, faults)
         if any(it is not None and it != left for it, left in zip(wanted, self.reports())):
             wrong.append(f"reports {self.reports()} {self.done.stderr}")
         if scene.told is not None and not any(it.startswith("confine: ") and it.endswith(scene.told) for it in self.done.stderr.splitlines()):
@@ -248,6 +251,14 @@ WRONG_WORDS = (
     (["--secret", "/etc", "--", "true"], "one lies in the other"),
     (["--public", "/var/tmp", "--report", "/var/tmp/confine-tried", "--", "true"], "which is public"),
     (["--secret", "/etc"] * 9 + ["--", "true"], "at most 8"),
+    (["--faults", "/var/tmp/confine-tried", "--", "true"], "it stands after the --secret"),
+    (["--secret", "/srv", "--faults", "/etc", "--", "true"], "can't be written"),
+    (["--secret", "/srv", "--faults", "/dev/full", "--", "true"], "is no plain file"),
+    (["--secret", "/srv", "--report", "/var/tmp/confine-tried", "--faults", "/var/tmp/confine-tried", "--", "true"], "it is a report"),
+    (["--secret", "/srv", "--faults", "/var/tmp/confine-tried", "--faults", "/var/tmp/confine-tried", "--", "true"], "the faults of two"),
+    (["--public", "/var/tmp", "--secret", "/srv", "--faults", "/var/tmp/confine-tried", "--", "true"], "which is public"),
+    (["--secret", "/var/tmp", "--secret", "/srv", "--faults", "/var/tmp/confine-tried", "--", "true"], "it lies in /var/tmp"),
+    (["--secret", "/srv", *["--faults", "/var/tmp/confine-tried"] * 9, "--", "true"], "at most 8"),
     (["--policy", "/no/such/file", "--", "true"], "/no/such/file: "),
 )
 
@@ -302,6 +313,13 @@ WRONG_POLICIES = (
     ('gate = [{program = ["true"]}]', "name is wanted"),
     ('gate = [{name = "a", program = [' + ", ".join(['"true"'] * 17) + "]}]", "at most 16 words"),
     ("gate = [" + ", ".join(['{name = "a", program = ["true"]}'] * 9) + "]", "at most 8 gates"),
+    ('categories = ["none"]', "none is the label of no category"),
+    ('faults = [{file = "errors"}]', "a label above 1 is wanted"),
+    ('categories = ["first"]\nfaults = [{file = "errors", label = {first = 1}}]', "a label above 1 is wanted"),
+    ("faults = [{}]", "file is wanted"),
+    ('faults = [{file = "errors", colour = 1}]', "no word of a policy: colour"),
+    ('gate = [{name = "a", program = ["true"], answers = 1}]', "true or false is wanted"),
+    ('write = [{file = "open"}]\ngate = [{name = "a", program = ["true"], answers = true, file = "open"}]', "a gate answers or writes a file"),
 )
 
 

@@ -31,10 +31,12 @@ void begin_faults(struct report *faults)
 static void note(const struct report *faults, const char *text, size_t length)
 {
     static const char MORE[] = "\nconfine: what came then is left out\n";
+    const off_t most = MOST_NOTED - (off_t)strlen(MORE);
     off_t size = lseek(faults->staged, 0, SEEK_END);
-    if (size < 0 || size > MOST_NOTED - (off_t)sizeof MORE) return;
-    if (length > (size_t)(MOST_NOTED - (off_t)sizeof MORE - size)) text = MORE, length = sizeof MORE;
-    if (write(faults->staged, text, length) < 0) {}
+    bool is_most = size >= 0 && size <= most && length > (size_t)(most - size);
+    if (size < 0 || size > most) return;
+    if (write(faults->staged, text, is_most ? (size_t)(most - size) : length) < 0) {}
+    if (is_most && write(faults->staged, MORE, strlen(MORE)) < 0) {}
 }
 
 void note_errors(const struct plan *plan, const struct family *family, const char *text, size_t length)
