@@ -60,6 +60,16 @@ def built(report, library):
     return done.returncode == 0
 
 
+def lacks_static(room):
+    """Whether its build says in one line that it needs static libraries, where the compiler finds none."""
+    compiler = f"{room}/c++"
+    with open(compiler, "w", encoding="utf-8") as it:
+        it.write('#!/bin/sh\nfor word; do [ "$word" != -static-pie ] || exit 1; done\nexec c++ "$@"\n')
+    os.chmod(compiler, 0o755)
+    done = subprocess.run(["bindings/confine/build.sh"], env={**os.environ, "CXX": compiler}, stdout=subprocess.PIPE, stderr=subprocess.STDOUT, text=True)
+    return done.returncode == UNABLE and len(done.stdout.splitlines()) == 1 and "static libraries are missing" in done.stdout
+
+
 class Tried:
     """Programs in C that try to mislead the broker, in a folder that is public."""
 
@@ -339,12 +349,13 @@ def says_why(words, piece):
     return done.returncode == 2 and not done.stdout and len(lines) == 1 and piece in lines[0]
 
 
-def says_it_cannot():
-    """Whether it says in one line that it can't confine, and starts nothing, where there may be no user namespace."""
-    inside = f"echo 0 > /proc/sys/user/max_user_namespaces && exec {CONFINE} -- /bin/echo started"
+def says_it_cannot(words="", status=UNABLE):
+    """Whether it says in one line that it can't confine, or that its words make no plan, and starts nothing, where there may be no user
+    namespace."""
+    inside = f"echo 0 > /proc/sys/user/max_user_namespaces && exec {CONFINE} {words} -- /bin/echo started"
     words = ["unshare", "--user", "--map-root-user", "sh", "-c", inside]
     done = subprocess.run(words, stdout=subprocess.PIPE, stderr=subprocess.PIPE, text=True)
-    return done.returncode == UNABLE and not done.stdout and len(done.stderr.splitlines()) == 1
+    return done.returncode == status and not done.stdout and len(done.stderr.splitlines()) == 1
 
 
 # What the page shows, and the files of the home folder in which it is typed there.
@@ -581,6 +592,8 @@ def try_all(report, library, auditor, is_long=False):
         try_ends(report, CONFINE, room)
         try_documented(report, room)
         report.counts(says_it_cannot(), "confine: where there are no user namespaces it says so, and starts nothing")
+        report.counts(all(says_it_cannot("--secret /etc", USAGE) for _ in range(8)), "confine: where there are no user namespaces a wrong plan is told of alone")
+        report.counts(lacks_static(room), "confine: where no static library is there its build says so")
         for policy, piece in WRONG_POLICIES:
             report.counts(says_why_of_policy(f"{room}/scene", policy, piece), f"confine: a policy that is none: {piece}")
         tried = Tried(room)

@@ -129,7 +129,7 @@ ANSWERS = (
     Scene("holds a gate that answers and reads a secret that it does not own", TO_COUNT + "cat $T/key 2> /dev/null | cat; echo held", printed="held\n", policy=ANSWERING, leaks="text"),
     Scene("is answered by another's way", TO_COUNT + "confine-run first -- cat $S/key >&5; confine-run none -- sh -c 'timeout 1 cat' <&5; echo clean", printed=f"{len(SECRET) + 1}\nclean\n", policy=ANSWERING, status=None),
     Scene("shows the errors of a gate that answers", READ + "if [ -d /gate ]; then exec 5<> /gate/noisy; else exec 5>&2; fi; echo $k >&5; sleep 0.5", policy=ANSWERING.replace('"same"\nprogram = ["cat"]', '"noisy"\nprogram = ["sh", "-c", "cat >&2"]'), leaks="text"),
-    Scene("tells by the failure of a gate that answers", READ + ASKS % ("failing", "STDERR"), policy=ANSWERING.replace('"same"\nprogram = ["cat"]', '"failing"\nprogram = ["false"]'), told="and the status"),
+    Scene("tells by the failure of a gate that answers", READ + "if [ -d /gate ]; then " + ASKS % ("failing", "STDERR") + "; else echo failing failed; fi", leaks="failure", policy=ANSWERING.replace('"same"\nprogram = ["cat"]', '"failing"\nprogram = ["false"]')),
     Scene("leaves a gate's answer unread", TO_SAME + "head -c 3000000 /dev/zero >&5 & sleep 0.5; kill $! 2> /dev/null; echo done", printed="done\n", policy=ANSWERING, seconds=30, status=None),
     Scene("ends before it is answered", TO_COUNT + "confine-run first -- sh -c 'sleep 1; cat $S/key' >&5; echo done", printed="done\n", policy=ANSWERING, seconds=30),
     Scene("closes its way before a start is there", "confine-run first -- cat $S/key 3<> /gate/count >&3; exec 3>&-; echo done", printed="done\n", policy=ANSWERING, seconds=30),

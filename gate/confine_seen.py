@@ -125,6 +125,7 @@ class Watched:
             "faults readable": lambda: SECRET in self.rooms.read("E") and os.stat(self.rooms.paths["E"]).st_mode & 0o077 != 0,
             "report read": lambda: self.is_report_read(),
             "end": lambda: "the end" in self.whole(),
+            "failure": lambda: "failing failed" in self.said,
             "status": lambda: self.status != 0,
             "names": lambda: self.all_names() - self.names != set(),
             "gone": lambda: not os.path.exists(self.text),

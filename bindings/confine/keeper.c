@@ -23,8 +23,16 @@ struct ends {
     const struct begun *begun;
 };
 
+/* Where the keeper is told to go on, until it was. */
+static int go = -1;
+
+/* (What this machine lacks is not said of a plan that is found wrong meanwhile.) */
 ENDS void unable(const char *what)
 {
+    int error = errno;
+    char byte;
+    if (go >= 0 && read(go, &byte, 1) != 1) _exit(ENDS_UNABLE);
+    errno = error;
     fprintf(stderr, "confine: this machine can't confine: %s: %s\n", what, strerror(errno));
     exit(ENDS_UNABLE);
 }
@@ -181,6 +189,7 @@ _Noreturn static void run_keeper(const struct plan *plan, struct ends *ends, int
     int entered[2];
     char byte;
     pid_t first;
+    go = socket;
     lower_files();
     setsid();
     NEEDS(ends->proc = open("/proc", O_PATH | O_DIRECTORY | O_CLOEXEC));
@@ -191,6 +200,7 @@ _Noreturn static void run_keeper(const struct plan *plan, struct ends *ends, int
     NEEDS(prctl(PR_SET_PDEATHSIG, SIGKILL, 0, 0, 0));
     take_user(user, group);
     if (read(socket, &byte, 1) != 1) _exit(ENDS_FAULT);
+    go = -1;
     make_world(plan);
     if (!send_world(plan, socket)) _exit(ENDS_FAULT);
     NEEDS(first = fork());
