@@ -268,6 +268,7 @@ WRONG_WORDS = (
     (["--secret", "/srv", "--faults", "/var/tmp/confine-tried", "--faults", "/var/tmp/confine-tried", "--", "true"], "the faults of two"),
     (["--public", "/var/tmp", "--secret", "/srv", "--faults", "/var/tmp/confine-tried", "--", "true"], "which is public"),
     (["--secret", "/var/tmp", "--secret", "/srv", "--faults", "/var/tmp/confine-tried", "--", "true"], "it lies in /var/tmp"),
+    (["--secret", "/var/tmp", "--faults", "/var/tmp/confine-tried", "--", "true"], "it lies in /var/tmp, and is no secret"),
     (["--secret", "/srv", *["--faults", "/var/tmp/confine-tried"] * 9, "--", "true"], "at most 8"),
     (["--policy", "/no/such/file", "--", "true"], "/no/such/file: "),
 )

@@ -135,4 +135,31 @@ ANSWERS = (
     Scene("closes its way before a start is there", "confine-run first -- cat $S/key 3<> /gate/count >&3; exec 3>&-; echo done", printed="done\n", policy=ANSWERING, seconds=30),
     Scene("reads a gate that does not answer", "(exec 5<> /gate/lines) 2> /dev/null || echo none", printed="none\n", policy=ANSWERING),
 )
-ALL = (*LINKS, *FOLDERS, *BEFORE, *FAULTS, *MOST, *ANSWERS)
+
+# What is hostile in several ways at once.
+BIG = {"old": "x" * 3_000_000}
+HOSTILE = (
+    Scene("opens what its report had by many at once", "cat $S/key > /dev/null; for i in 1 2 3 4 5 6 7 8; do " + perl('open(F,"+<","$ENV{R}"); seek(F,0,2); print tell(F)') + " > /tmp/n$$-$i & done; wait; cat /tmp/n$$-* > $R", report="3000000" * 8, **BIG),
+    Scene("has a report in its secret, of which it is the one file", "cat $S/key > /tmp/k$$; cat /tmp/k$$ > $S/key", words=["--secret", "$S", "--report", "$S/key"]),
+    Scene("starts what sees no more of a report than it may", "confine-run none -- sh -c 'test -s $R && echo the end'; confine-run second -- sh -c 'cat $T/key $R > /tmp/x$$; cat /tmp/x$$ > $U'; echo clean", printed="clean\n", second=SECOND + "\n", policy=POLICY, report=LINE, leaks="end", **OLD),
+    Scene("tells how long its report was by how long a start takes", "for i in 1 2 3; do confine-run first -- sh -c 'cat $R > /dev/null'; done; confine-run none -- echo done", printed="done\n", policy=POLICY, report="x" * 3_000_000, **BIG),
+    Scene("has a report with no rights at its end", "cat $S/key > /dev/null; echo new >> $R; chmod 0 $R", report="old\nnew\n", old="old\n"),
+    Scene("names another's folder as where a start begins", perl('use Socket; use IO::Handle; open(F,"+<","/gate/run"); $t=join("\\0","none","","$ENV{S}","1","/bin/pwd","A=b")."\\0"; print defined(syswrite(F,$t)) ? "sent" : "no"; shutdown(F,1); sysread(F,$x,99); print " $x"'), printed="sent 2 nothing was asked for", policy=POLICY),
+    Scene("starts in a folder of a secret", "confine-run none -- sh -c 'cd $S 2> /dev/null; confine-run none -- cat key' 2> /dev/null; echo $?", printed="0\n", policy=POLICY),
+    Scene("prints errors by many that it starts", "for i in 1 2 3; do confine-run first -- sh -c 'cat $S/key >&2'; sleep 1; done; echo clean", printed="clean\n", policy=BY_FAULTS, faults=f"{SECRET}\nconfine: the status is 0\n" * 3),
+    Scene("prints errors where its output goes on", "confine-run first -- sh -c 'cat $S/key >&2' 2>&1 | confine-run first,second -- sh -c 'cat > $U'; echo clean", printed="clean\n", second=LINE, policy=BY_FAULTS, faults=None),
+    Scene("prints its errors before and after a rise", "echo before >&2; cat $S/key > /dev/null; echo after >&2", words=FAULTY, faults="after\nconfine: the status is 0\n"),
+    Scene("prints its errors by a child that it leaves behind", "(sleep 0.5; cat $S/key >&2) & cat $S/key > /dev/null; exit 4", words=FAULTY, faults="confine: the status is 4\n"),
+    Scene("prints a fault that looks like confine's", READ + "printf 'confine: the status is 0\\n' >&2; exit 9", words=FAULTY, faults="confine: the status is 0\nconfine: the status is 9\n"),
+    Scene("has faults that are taken away while it runs", READ + "sleep 0.6; echo $k >&2", words=[*ONE, "--faults", "$O/errors"], laid='(sleep 0.4; rm -f "$O/errors") & true', faults=None),
+    Scene("has faults that become a link to what is public", READ + "sleep 0.6; echo $k >&2", words=[*ONE, "--faults", "$O/errors"], laid='(sleep 0.4; rm -f "$O/errors"; ln -s "$P/new" "$O/errors") & true', faults=None),
+    Scene("starts at a label that is at most above another's gate", "confine-run first --at-most first,second -- sh -c 'cat $S/key > /gate/count; cat $T/key > $U || echo x > $R'; echo clean", printed=None, report="x\n", policy=GATES),
+    Scene("asks a gate that answers by one that is bounded", TO_COUNT + "confine-run first --at-most first -- sh -c 'cat $S/key; cat $T/key' >&5 2> /dev/null; read n <&5; echo $n", printed=f"{len(SECRET) + 1}\n", policy=ANSWERING),
+    Scene("holds many ways to a gate that answers", perl('for (1..40) { open($h[$_],"+<","/gate/count") or last; $n++ } print $n') + "; echo; confine-run none -- echo alive", printed="16\nalive\n", policy=ANSWERING, seconds=30),
+    Scene("reads a secret by a link that it is born in", "cat $N/key > $R; pwd", report=LINE, words=["--secret", "$N", "--report", "$R", "--born-tainted"]),
+    Scene("names its report by two links", "cat $S/key > $R", report=LINE, words=["--secret", "$S", "--report", "$L/report", "--report", "$L/link/report"]),
+    Scene("names its report by a link, with two labels", "echo x", status=2, words=["--report", "$R", "--secret", "$S", "--report", "$L/report"]),
+    Scene("names its faults by a link to its report", "echo x", status=2, words=["--secret", "$S", "--report", "$R", "--faults", "$L/report"]),
+    Scene("names what is public by a link into its secret", "echo x", status=2, words=["--secret", "$S", "--public", "$N"]),
+)
+ALL = (*LINKS, *FOLDERS, *BEFORE, *FAULTS, *MOST, *ANSWERS, *HOSTILE)

@@ -91,6 +91,8 @@ static void keep_faults_apart(const struct plan *plan, int i)
     const struct report *faults = &plan->faults[i];
     keep_private(faults);
     keep_report_apart(plan, faults);
+    for (int j = 0; j < plan->secret_count; j++)
+        if (is_placed_below(faults->path, plan->secrets[j].path)) refuse("%s: it lies in %s, and is no secret", faults->path, plan->secrets[j].path);
     for (int j = 0; j < plan->report_count; j++)
         if (is_same(faults->file, plan->reports[j].file)) refuse("%s: it is a report, and can't have faults", faults->path);
     for (int j = 0; j < i; j++)

@@ -147,6 +147,7 @@ struct family {
     bool adds[MOST_REPORTS];         /* it opened the report to add to it, */
     bool replaces[MOST_REPORTS];     /* not only to add to it, */
     bool empties[MOST_REPORTS];      /* or as an empty one */
+    int bringer;                     /* what tells that much of reports is in its world; 0 where nothing was to be brought */
     struct world world;
 };
 
@@ -431,6 +432,7 @@ int begin_report(const struct plan *plan, struct family *family, int report, int
  * here: true for that one, which answers the program in the broker's place and ends by end_bringing; and false for the broker. */
 bool bring_reports(const struct plan *plan, struct family *family);
 void end_bringing(void);
+void end_bringer(struct family *family);
 
 /* Begins to keep what gates print for a report; and what leads to the end of it, or -1. */
 bool stage(struct report *report);

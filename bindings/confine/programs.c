@@ -155,6 +155,7 @@ static void finish(struct plan *plan, struct program *program)
     mask(program);
     each_stream(family, end_of);
     leave_reports(plan, family);
+    end_bringer(family);
     end_answers(family);
     forget_answers(family);
     if (program->by) forget(program->in);

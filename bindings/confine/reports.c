@@ -224,22 +224,44 @@ static bool bring(const struct plan *plan, struct family *family, int i)
 
 static bool is_elsewhere; /* this process goes on in place of the broker */
 
+/* Goes on in another process, which first waits until an earlier one has brought what it was to bring. */
+static void go_elsewhere(struct family *family, bool brings, pid_t *other)
+{
+    struct pollfd earlier = {family->bringer > 0 ? family->bringer : -1, POLLIN, 0};
+    if ((*other = fork())) {
+        if (*other < 0) return;
+        if (brings && family->bringer > 0) close(family->bringer);
+        if (brings) family->bringer = (int)syscall(SYS_pidfd_open, *other, 0);
+        note_ending(*other);
+        return;
+    }
+    prctl(PR_SET_PDEATHSIG, SIGKILL, 0, 0, 0);
+    if (earlier.fd > 0) poll(&earlier, 1, -1);
+    is_elsewhere = true;
+}
+
 bool bring_reports(const struct plan *plan, struct family *family)
 {
     off_t sizes[MOST_REPORTS], all = 0;
     pid_t other = 0;
+    bool waits = family->bringer > 0 && !came_now(family->bringer, POLLIN);
     for (int i = 0; i < plan->report_count; i++) {
         sizes[i] = missing(plan, family, i);
         if (sizes[i] && (!observes_report(plan, family, i) || !fits(family, all + sizes[i]))) sizes[i] = 0;
         all += sizes[i];
     }
-    if (all > MOST_AT_ONCE && !(other = fork())) is_elsewhere = !prctl(PR_SET_PDEATHSIG, SIGKILL, 0, 0, 0);
+    if (all > MOST_AT_ONCE || waits) go_elsewhere(family, all > MOST_AT_ONCE, &other);
     for (int i = 0; i < plan->report_count; i++) {
         if (sizes[i] && (other > 0 || bring(plan, family, i))) family->old[i] = sizes[i];
         family->is_begun[i] = family->is_begun[i] || family->adds[i] || family->replaces[i] || family->empties[i];
     }
-    if (other > 0) note_ending(other);
     return other <= 0;
+}
+
+void end_bringer(struct family *family)
+{
+    if (family->bringer > 0) close(family->bringer);
+    family->bringer = 0;
 }
 
 void end_bringing(void)
