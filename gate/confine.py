@@ -99,7 +99,7 @@ class Rooms:
     """The folders and files of a scene, made anew, for a user."""
 
     def __init__(self, room, user=0):
-        self.names = {"S": "secret", "T": "second", "P": "public", "O": "own", "R": "report", "U": "report2", "Q": "open", "E": "errors", "F": "policy", "H": "", "L": "link", "N": "near"}
+        self.names = {"S": "secret", "T": "second", "P": "public", "O": "own", "R": "report", "U": "report2", "Q": "open", "E": "errors", "F": "policy", "H": "", "L": "by-link", "N": "near"}
         self.paths = {name: f"{room}/{path}".rstrip("/") for name, path in self.names.items()}
         self.paths["M"] = f"/tmp/{os.path.basename(os.path.dirname(room))}"
         self.user = user
