@@ -105,7 +105,7 @@ PLACES = (
     Scene("starts more than have a place, and all run", "for i in $(seq 40); do confine-run none -- sh -c 'sleep 0.2; echo x' & done | wc -l; wait", printed="40\n", policy=POLICY),
     Scene(
         "starts more than the broker has descriptors for, and one once these have ended",
-        "for i in $(seq 12); do confine-run none -- sleep 1 2> /tmp/said$i & done; wait; cat /tmp/said* | grep -q 'can.t be started' && echo some; confine-run none -- echo body",
+        "for i in $(seq 12); do confine-run none -- sleep 4 2> /tmp/said$i & done; wait; cat /tmp/said* | grep -q 'can.t be started' && echo some; confine-run none -- echo body",
         printed="some\nbody\n",
         policy=POLICY,
         laid="ulimit -n 64",
