@@ -60,13 +60,14 @@ def built(report, library):
     return done.returncode == 0
 
 
-def lacks_static(room):
+def lacks_static(room, library):
     """Whether its build says in one line that it needs static libraries, where the compiler finds none."""
     compiler = f"{room}/c++"
     with open(compiler, "w", encoding="utf-8") as it:
         it.write('#!/bin/sh\nfor word; do [ "$word" != -static-pie ] || exit 1; done\nexec c++ "$@"\n')
     os.chmod(compiler, 0o755)
-    done = subprocess.run(["bindings/confine/build.sh"], env={**os.environ, "CXX": compiler}, stdout=subprocess.PIPE, stderr=subprocess.STDOUT, text=True)
+    env = {**os.environ, "CXX": compiler, "HISTAR_LIB": os.path.realpath(library)}
+    done = subprocess.run(["bindings/confine/build.sh"], env=env, stdout=subprocess.PIPE, stderr=subprocess.STDOUT, text=True)
     return done.returncode == UNABLE and len(done.stdout.splitlines()) == 1 and "static libraries are missing" in done.stdout
 
 
@@ -594,7 +595,7 @@ def try_all(report, library, auditor, is_long=False):
         try_documented(report, room)
         report.counts(says_it_cannot(), "confine: where there are no user namespaces it says so, and starts nothing")
         report.counts(all(says_it_cannot("--secret /etc", USAGE) for _ in range(8)), "confine: where there are no user namespaces a wrong plan is told of alone")
-        report.counts(lacks_static(room), "confine: where no static library is there its build says so")
+        report.counts(lacks_static(room, library), "confine: where no static library is there its build says so")
         for policy, piece in WRONG_POLICIES:
             report.counts(says_why_of_policy(f"{room}/scene", policy, piece), f"confine: a policy that is none: {piece}")
         tried = Tried(room)
