@@ -13,7 +13,7 @@ import subprocess
 import tempfile
 import time
 
-from gate import confine_attacks, confine_ends, confine_programs, confine_wrong
+from gate import confine_attacks, confine_ends, confine_kept, confine_programs, confine_wrong
 from gate.confine_scenes import BY_POLICY, ONE, OWN, POLICY, POLICY_SCENES, PUBLIC, SCENES, SECOND, SECRET, TWO, Scene
 from gate.confine_seen import Watched
 from gate.documents import commands_in
@@ -26,7 +26,7 @@ USAGE, UNABLE = 2, 69
 
 # The status of what was ended since it did not end by itself.
 ENDLESS = -signal.SIGKILL
-ATTACKS = (*confine_attacks.REPORTS, *confine_attacks.OUTSIDE, *confine_attacks.INODES, *confine_attacks.MEANS, *confine_attacks.HELD, *confine_attacks.LABELS, *confine_attacks.STARTS, *confine_ends.ALL)
+ATTACKS = (*confine_attacks.REPORTS, *confine_attacks.OUTSIDE, *confine_attacks.INODES, *confine_attacks.MEANS, *confine_attacks.HELD, *confine_attacks.LABELS, *confine_attacks.STARTS, *confine_ends.ALL, *confine_kept.ALL)
 
 # An ordinary user's number, as which root plays scenes too.
 NOBODY = 65534
@@ -60,6 +60,17 @@ def built(report, library):
     return done.returncode == 0
 
 
+def lacks_static(room, library):
+    """Whether its build says in one line that it needs static libraries, where the compiler finds none."""
+    compiler = f"{room}/c++"
+    with open(compiler, "w", encoding="utf-8") as it:
+        it.write('#!/bin/sh\nfor word; do [ "$word" != -static-pie ] || exit 1; done\nexec c++ "$@"\n')
+    os.chmod(compiler, 0o755)
+    env = {**os.environ, "CXX": compiler, "HISTAR_LIB": os.path.realpath(library)}
+    done = subprocess.run(["bindings/confine/build.sh"], env=env, stdout=subprocess.PIPE, stderr=subprocess.STDOUT, text=True)
+    return done.returncode == UNABLE and len(done.stdout.splitlines()) == 1 and "static libraries are missing" in done.stdout
+
+
 class Tried:
     """Programs in C that try to mislead the broker, in a folder that is public."""
 
@@ -89,7 +100,7 @@ class Rooms:
     """The folders and files of a scene, made anew, for a user."""
 
     def __init__(self, room, user=0):
-        self.names = {"S": "secret", "T": "second", "P": "public", "O": "own", "R": "report", "U": "report2", "Q": "open", "F": "policy", "H": ""}
+        self.names = {"S": "secret", "T": "second", "P": "public", "O": "own", "R": "report", "U": "report2", "Q": "open", "E": "errors", "F": "policy", "H": "", "L": "by-link", "N": "near"}
         self.paths = {name: f"{room}/{path}".rstrip("/") for name, path in self.names.items()}
         self.paths["M"] = f"/tmp/{os.path.basename(os.path.dirname(room))}"
         self.user = user
@@ -103,7 +114,9 @@ class Rooms:
         self.put("O", "own", OWN)
         for name in "PM":
             os.mkfifo(f"{self.paths[name]}/pipe")
-        for name in "RUQ":
+        os.symlink(self.paths["H"], self.paths["L"])
+        os.symlink("secret", self.paths["N"])
+        for name in "RUQE":
             os.close(os.open(self.paths[name], os.O_CREAT | os.O_WRONLY, 0o600))
         self.give()
         self.readers = [os.open(f"{self.paths[name]}/pipe", os.O_RDONLY | os.O_NONBLOCK) for name in "PM"]
@@ -135,7 +148,7 @@ class Rooms:
             it.write(text + "\n")
 
     def words(self, words):
-        return [self.paths[it[1:]] if it.startswith("$") else it for it in words]
+        return [self.paths[it[1]] + it[2:] if it.startswith("$") else it for it in words]
 
     def read(self, name, file=""):
         path = os.path.join(self.paths[name], file) if file else self.paths[name]
@@ -199,7 +212,7 @@ class Play:
             self.watched.end()
 
     def reports(self):
-        return tuple(self.rooms.read(it) for it in "RUQ")
+        return tuple(self.rooms.read(it) for it in "RUQE")
 
     def wrong(self):
         """What is wrong with how a scene ended in confine, or nothing."""
@@ -208,7 +221,8 @@ class Play:
             wrong.append(f"printed {self.done.stdout!r}")
         if self.done.returncode == ENDLESS or (scene.status is not None and self.done.returncode != scene.status):
             wrong.append(f"status {self.done.returncode} {self.done.stderr}")
-        wanted = (scene.report + (NOTE if scene.leaks and scene.is_noted else ""), scene.second, scene.open)
+        faults = scene.faults and scene.faults.replace("$R", self.rooms.paths["R"])
+        wanted = (scene.report + (NOTE if scene.leaks and scene.is_noted else ""), scene.second, scene.open, faults)
         if any(it is not None and it != left for it, left in zip(wanted, self.reports())):
             wrong.append(f"reports {self.reports()} {self.done.stderr}")
         if scene.told is not None and not any(it.startswith("confine: ") and it.endswith(scene.told) for it in self.done.stderr.splitlines()):
@@ -248,6 +262,15 @@ WRONG_WORDS = (
     (["--secret", "/etc", "--", "true"], "one lies in the other"),
     (["--public", "/var/tmp", "--report", "/var/tmp/confine-tried", "--", "true"], "which is public"),
     (["--secret", "/etc"] * 9 + ["--", "true"], "at most 8"),
+    (["--faults", "/var/tmp/confine-tried", "--", "true"], "it stands after the --secret"),
+    (["--secret", "/var/log", "--faults", "/etc", "--", "true"], "can't be written"),
+    (["--secret", "/var/log", "--faults", "/dev/full", "--", "true"], "is no plain file"),
+    (["--secret", "/var/log", "--report", "/var/tmp/confine-tried", "--faults", "/var/tmp/confine-tried", "--", "true"], "it is a report"),
+    (["--secret", "/var/log", "--faults", "/var/tmp/confine-tried", "--faults", "/var/tmp/confine-tried", "--", "true"], "the faults of two"),
+    (["--public", "/var/tmp", "--secret", "/var/log", "--faults", "/var/tmp/confine-tried", "--", "true"], "which is public"),
+    (["--secret", "/var/tmp", "--secret", "/var/log", "--faults", "/var/tmp/confine-tried", "--", "true"], "it lies in /var/tmp"),
+    (["--secret", "/var/tmp", "--faults", "/var/tmp/confine-tried", "--", "true"], "it lies in /var/tmp, and is no secret"),
+    (["--secret", "/var/log", *["--faults", "/var/tmp/confine-tried"] * 9, "--", "true"], "at most 8"),
     (["--policy", "/no/such/file", "--", "true"], "/no/such/file: "),
 )
 
@@ -302,6 +325,13 @@ WRONG_POLICIES = (
     ('gate = [{program = ["true"]}]', "name is wanted"),
     ('gate = [{name = "a", program = [' + ", ".join(['"true"'] * 17) + "]}]", "at most 16 words"),
     ("gate = [" + ", ".join(['{name = "a", program = ["true"]}'] * 9) + "]", "at most 8 gates"),
+    ('categories = ["none"]', "none is the label of no category"),
+    ('faults = [{file = "errors"}]', "a label above 1 is wanted"),
+    ('categories = ["first"]\nfaults = [{file = "errors", label = {first = 1}}]', "a label above 1 is wanted"),
+    ("faults = [{}]", "file is wanted"),
+    ('faults = [{file = "errors", colour = 1}]', "no word of a policy: colour"),
+    ('gate = [{name = "a", program = ["true"], answers = 1}]', "true or false is wanted"),
+    ('write = [{file = "open"}]\ngate = [{name = "a", program = ["true"], answers = true, file = "open"}]', "a gate answers or writes a file"),
 )
 
 
@@ -321,12 +351,13 @@ def says_why(words, piece):
     return done.returncode == 2 and not done.stdout and len(lines) == 1 and piece in lines[0]
 
 
-def says_it_cannot():
-    """Whether it says in one line that it can't confine, and starts nothing, where there may be no user namespace."""
-    inside = f"echo 0 > /proc/sys/user/max_user_namespaces && exec {CONFINE} -- /bin/echo started"
+def says_it_cannot(words="", status=UNABLE):
+    """Whether it says in one line that it can't confine, or that its words make no plan, and starts nothing, where there may be no user
+    namespace."""
+    inside = f"echo 0 > /proc/sys/user/max_user_namespaces && exec {CONFINE} {words} -- /bin/echo started"
     words = ["unshare", "--user", "--map-root-user", "sh", "-c", inside]
     done = subprocess.run(words, stdout=subprocess.PIPE, stderr=subprocess.PIPE, text=True)
-    return done.returncode == UNABLE and not done.stdout and len(done.stderr.splitlines()) == 1
+    return done.returncode == status and not done.stdout and len(done.stderr.splitlines()) == 1
 
 
 # What the page shows, and the files of the home folder in which it is typed there.
@@ -563,6 +594,8 @@ def try_all(report, library, auditor, is_long=False):
         try_ends(report, CONFINE, room)
         try_documented(report, room)
         report.counts(says_it_cannot(), "confine: where there are no user namespaces it says so, and starts nothing")
+        report.counts(all(says_it_cannot("--secret /etc", USAGE) for _ in range(8)), "confine: where there are no user namespaces a wrong plan is told of alone")
+        report.counts(lacks_static(room, library), "confine: where no static library is there its build says so")
         for policy, piece in WRONG_POLICIES:
             report.counts(says_why_of_policy(f"{room}/scene", policy, piece), f"confine: a policy that is none: {piece}")
         tried = Tried(room)

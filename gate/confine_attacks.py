@@ -54,6 +54,7 @@ OUTSIDE = (
     Scene("reads a secret that is mounted in what is public", "cat $P/in/key", status=2, laid='mkdir "$P/in"; mount --bind "$S" "$P/in"', is_noted=False, leaks="text"),
     Scene("reads a secret that is mounted as what is public", "cat $P/key", status=2, laid='mount --bind "$S" "$P"', is_noted=False, leaks="text"),
     Scene("tells by a lock in what is mounted in what is public", knows(opens("<$ENV{P}/in/own") + "flock(F,2)"), status=2, laid='mkdir "$P/in"; mount --bind "$O" "$P/in"', is_noted=False, leaks="own lock"),
+    Scene("has a mount in a secret", "cat $S/key > $R", status=2, laid='mount --bind "$O/own" "$S/key"'),
     Scene("reads a secret that is mounted in /usr", "cat /usr/share/man/key", status=2, laid='mount --bind "$S" /usr/share/man', is_noted=False, leaks="text"),
 )
 

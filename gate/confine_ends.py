@@ -105,7 +105,7 @@ PLACES = (
     Scene("starts more than have a place, and all run", "for i in $(seq 40); do confine-run none -- sh -c 'sleep 0.2; echo x' & done | wc -l; wait", printed="40\n", policy=POLICY),
     Scene(
         "starts more than the broker has descriptors for, and one once these have ended",
-        "for i in $(seq 12); do confine-run none -- sleep 1 2> /tmp/said$i & done; wait; cat /tmp/said* | grep -q 'can.t be started' && echo some; confine-run none -- echo body",
+        "for i in $(seq 12); do confine-run none -- sleep 4 2> /tmp/said$i & done; wait; cat /tmp/said* | grep -q 'can.t be started' && echo some; confine-run none -- echo body",
         printed="some\nbody\n",
         policy=POLICY,
         laid="ulimit -n 64",
@@ -129,6 +129,7 @@ SHARED = (
     Scene("tells others by a lock of a file of /usr", perl('open(K,"<","$ENV{S}/key"); <K>; open(F,"<","/usr/lib/os-release"); flock(F,2); select(undef,undef,undef,0.3)'), leaks="usr lock", status=None),
     Scene("asks how much memory the machine has", perl('$s="x" x 112; syscall(99,$s); print join(" ",unpack("x32Q2",$s))'), printed=f"{8 << 30} {4 << 30}"),
     Scene("asks whether a file is in the machine's memory", perl('open(F,"<","/usr/lib/os-release"); $b="x" x 9; $v=pack("PQ",$b,9); print syscall(327,fileno(F),$v,1,0,0,8) < 0 && $!!=11 ? 0 : 1'), printed="0", leaks="means"),
+    Scene("reads what is in memory alone", perl('pipe(A,B); syswrite(B,"x"); $b="y"; $v=pack("PQ",$b,1); print syscall(327,fileno(A),$v,1,-1,-1,8) == 1 ? 1 : 0'), printed="0", leaks="means"),
     Scene("has a file kept in the machine's memory no more", perl('open(F,"<","/usr/lib/os-release"); print syscall(221,-1,0,0,4) < 0 ? 1 : 0'), printed="0", leaks="means"),
     Scene("sends a byte out of its turn", perl('socketpair(A,B,AF_UNIX,SOCK_STREAM,0); print defined(send(A,"x",1)) ? 1 : 0'), printed="0", leaks="means"),
 )

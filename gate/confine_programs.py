@@ -2,6 +2,7 @@
 docs/CONFINE.md has the table, by `python3 -m gate.confine_programs`. What the machine lacks is left out, by name."""
 import os
 import shutil
+import sqlite3
 import subprocess
 import tempfile
 
@@ -19,6 +20,11 @@ FILES = {
     "text": "hello\nfever\nhello\n",
     "note.md": "# hello\n\nA *note*.\n",
     "hello.tex": "\\documentclass{article}\\begin{document}hello\\end{document}\n",
+    "hello.go": 'package main\n\nimport "fmt"\n\nfunc main() { fmt.Println("hello") }\n',
+    "crate/Cargo.toml": '[package]\nname = "hello"\nversion = "0.1.0"\nedition = "2021"\n',
+    "crate/src/main.rs": 'fn main() { println!("hello"); }\n',
+    "test_hello.py": 'def test_hello():\n    assert "hello" in "hello fever"\n',
+    "hello.ipynb": '{"cells": [{"cell_type": "code", "execution_count": null, "metadata": {}, "outputs": [], "source": ["print(6 * 7)"]}], "metadata": {}, "nbformat": 4, "nbformat_minor": 2}\n',
     "hello.json": '{"say": "hello"}\n',
 }
 
@@ -60,6 +66,19 @@ ROWS = (
     ("node", "node", "node -e 'console.log(require(\"fs\").readFileSync(process.env.S+\"/text\",\"utf8\"))' > $R", b"fever"),
     ("java, javac", "javac", "javac -d /tmp $S/Hello.java && java -cp /tmp Hello > $R", b"hello"),
     ("rustc", "rustc", "rustc $S/hello.rs -o /tmp/h && /tmp/h > $R", b"hello"),
+    ("cargo build --offline", "cargo", "cp -r $S/crate /tmp/c && cd /tmp/c && cargo build -q --offline && target/debug/hello > $R", b"hello"),
+    ("go build", "go", "go build -o /tmp/h $S/hello.go && /tmp/h > $R", b"hello"),
+    ("pytest", "pytest", "cd $S && pytest -q > $R", b"1 passed"),
+    ("jupyter nbconvert", "jupyter", "jupyter nbconvert --to markdown --stdout $S/hello.ipynb > $R", b"print(6 * 7)"),
+    ("jupyter nbconvert --execute", "jupyter", "cp $S/hello.ipynb /tmp && jupyter nbconvert --execute --to markdown --stdout /tmp/hello.ipynb > $R", b"42"),
+    ("soffice", "soffice", "soffice --headless --convert-to pdf --outdir /tmp $S/text && cp /tmp/text.pdf $R", b"%PDF"),
+    ("sqlite3, a report twice", "sqlite3", "cat $S/text; for i in 1 2; do sqlite3 $R 'create table if not exists t(a); insert into t values (42)'; done; test $(sqlite3 $R 'select count(*) from t') = 2", b"SQLite format 3"),
+    ("sqlite3, a WAL", "sqlite3", "sqlite3 $S/wal.db 'select a from t' > $R", b"42"),
+    ("sqlite3, a WAL with no -shm", "sqlite3", "sqlite3 $S/cold.db 'select a from t' > $R", b"42"),
+    ("sqlite3, a WAL with no -shm, copied", "sqlite3", "cp $S/cold.db* /tmp; sqlite3 /tmp/cold.db 'select a from t' > $R", b"42"),
+    ("sqlite3, a WAL of a report", "sqlite3", "cat $S/text; sqlite3 $R 'pragma journal_mode=wal; create table t(a); insert into t values (42); select a from t' > /tmp/t; grep 42 /tmp/t", b"SQLite format 3"),
+    ("gpg -d", "gpg", "mkdir -m 700 /tmp/g; gpg --homedir /tmp/g --batch --passphrase pw --pinentry-mode loopback -d $S/text.gpg > $R", b"fever"),
+    ("gpg, keys", "gpg", "cat $S/text; mkdir -m 700 /tmp/g; gpg --homedir /tmp/g --batch --passphrase '' --quick-gen-key a && gpg --homedir /tmp/g --export a > $R", b"a"),
     ("vim -es", "vim", "vim -es -u NONE -c '%s/fever/cold/' -c 'w! '$R -c 'q!' $S/text", b"cold"),
     ("jq", "jq", "jq -r .say $S/hello.json > $R", b"hello"),
     ("file", "file", "file -b $S/hello.c > $R", b"C source"),
@@ -81,11 +100,33 @@ ROWS = (
 PASSED = ("S", "R", "GIT_CONFIG_GLOBAL", "RUSTUP_HOME", "CARGO_HOME", "JAVA_HOME")
 
 # What can't work, and why.
-WITHOUT = {"tmux": "it has no terminal and no socket with a name", "strace, gdb": "no process traces another", "curl": "there is no network"}
+WITHOUT = {
+    "tmux": "it has no terminal and no socket with a name",
+    "strace, gdb": "no process traces another",
+    "curl": "there is no network",
+    "jupyter nbconvert --execute": "there is no network: a kernel is asked by one",
+    "soffice": "no socket has a name; and its starter looks for /proc/version, which tells of the machine",
+    "gpg, keys": "no socket has a name: keys are an agent's",
+    "sqlite3, a WAL with no -shm": "the file can't be made beside it: it is to be copied",
+}
+
+
+def make_wal(folder):
+    """A database whose last rows are in its log: by a copy of it in use."""
+    used = sqlite3.connect(f"{folder}/used.db")
+    used.execute("pragma journal_mode = wal")
+    used.execute("create table t(a)")
+    used.execute("insert into t values (42)")
+    used.commit()
+    for name, ends in (("wal", ("", "-wal", "-shm")), ("cold", ("", "-wal"))):
+        for it in ends:
+            shutil.copy(f"{folder}/used.db{it}", f"{folder}/{name}.db{it}")
+    used.close()
 
 
 def make_sources(folder):
     for name, text in FILES.items():
+        os.makedirs(os.path.dirname(f"{folder}/{name}"), exist_ok=True)
         with open(f"{folder}/{name}", "w", encoding="utf-8") as it:
             it.write(text)
     repository = f"{folder}/repo"
@@ -94,6 +135,10 @@ def make_sources(folder):
     shutil.copy(f"{folder}/text", repository)
     for it in commands:
         subprocess.run(["git", *it], stdout=subprocess.DEVNULL, stderr=subprocess.DEVNULL)
+    keys = ["gpg", "--homedir", folder, "--batch", "--yes", "--passphrase", "pw", "--pinentry-mode", "loopback", "-c", "-o", f"{folder}/text.gpg", f"{folder}/text"]
+    if shutil.which("gpg"):
+        subprocess.run(keys, stdout=subprocess.DEVNULL, stderr=subprocess.DEVNULL)
+    make_wal(folder)
 
 
 def tried(row, room):

@@ -1,7 +1,7 @@
 """The scenes of confine: programs, and what each may leave. Most are attacks, which tell a secret where nothing keeps them.
 
 $S, $T: the secret folders; $R, $U: their reports; $Q: a report of no secret; $P: a public folder; $O: a folder of the user's that
-nobody named."""
+nobody named; $E: a file of faults; $L, $N: links to the folder that all of these are in, and to the first secret."""
 
 SECRET = "the-secret-key"
 SECOND = "the-other-key"
@@ -14,7 +14,7 @@ class Scene:
     how one of confine's lines ends, where that is asked. Where `leaks` names a way, the program tells the secret by it: the scene is
     also played without confine, where it has to be seen, and the program adds a line to its report once it has come to its end."""
 
-    def __init__(self, name, program, printed="", report="", second="", open="", status=0, words=None, stdin=None, policy="", told=None, leaks=None, users=(0, 1), is_noted=True, old="", laid=None, seconds=300):
+    def __init__(self, name, program, printed="", report="", second="", open="", status=0, words=None, stdin=None, policy="", told=None, leaks=None, users=(0, 1), is_noted=True, old="", laid=None, seconds=300, faults=""):
         self.name = name
         self.program = program
         self.printed = printed
@@ -32,6 +32,7 @@ class Scene:
         self.old = old  # what stands in its report before
         self.laid = laid  # a command that root gives before it begins, in a namespace of its own for mounts
         self.seconds = seconds  # it ends within that time
+        self.faults = faults  # what its file of faults has, with $R as its report's path
 
 
 ONE = ["--secret", "$S", "--report", "$R", "--public", "$P"]

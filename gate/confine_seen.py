@@ -13,6 +13,7 @@ from gate.confine_scenes import OWN, SECOND, SECRET
 
 FUTEX, WAIT, WAKE = 202, 0, 1
 GET_HINT = 1035
+READ_FROM = 1
 LIBC = ctypes.CDLL(None, use_errno=True)
 
 
@@ -69,7 +70,7 @@ class Watched:
         self.text, self.report = rooms.paths["P"] + "/text", rooms.paths["R"]
         self.packets, self.below = (self.socket_in(name) for name in "PM")
         self.names = self.all_names()
-        self.kept = None
+        self.kept = self.watch = None
         self.said = ""
         self.status = 0
         self.rights = os.stat(self.report).st_mode
@@ -89,12 +90,24 @@ class Watched:
     def end(self):
         for it in (self.packets, self.below):
             it.close()
+        if self.watch is not None:
+            os.close(self.watch)
 
     def all_names(self):
         found = set()
         for name in "PO":
             found |= set(os.listdir(self.rooms.paths[name]))
         return found | {it for it in os.listdir(self.rooms.paths["H"]) if it != "dump"}
+
+    def is_report_read(self):
+        """Whether another has read the report, by a watch of it."""
+        if self.watch is None:
+            self.watch = LIBC.inotify_init1(os.O_NONBLOCK)
+            LIBC.inotify_add_watch(self.watch, self.report.encode(), READ_FROM)
+        try:
+            return bool(os.read(self.watch, 4096))
+        except BlockingIOError:
+            return False
 
     def has_packet(self, of):
         return bool(select.select([of], [], [], 0)[0]) and SECRET.encode() in of.recv(4096)
@@ -106,8 +119,13 @@ class Watched:
             "means": lambda: "1" in self.said,
             "own": lambda: OWN in self.said,
             "secret": lambda: not self.rooms.is_secret_whole(),
-            "other report": lambda: SECRET in self.rooms.read("U") or SECOND in self.rooms.read("R"),
+            "other report": lambda: SECRET in self.rooms.read("U") or any(SECOND in self.rooms.read(it) for it in "RE"),
+            "faults linked": lambda: SECRET in self.rooms.read("P", "link"),
+            "faults length": lambda: os.path.getsize(self.rooms.paths["E"]) == 4242,
+            "faults readable": lambda: SECRET in self.rooms.read("E") and os.stat(self.rooms.paths["E"]).st_mode & 0o077 != 0,
+            "report read": lambda: self.is_report_read(),
             "end": lambda: "the end" in self.whole(),
+            "failure": lambda: "failing failed" in self.said,
             "status": lambda: self.status != 0,
             "names": lambda: self.all_names() - self.names != set(),
             "gone": lambda: not os.path.exists(self.text),

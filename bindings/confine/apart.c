@@ -85,6 +85,20 @@ static void keep_files_apart(const struct report *one, const struct report *othe
         refuse("%s and %s: one file with two labels", one->path, other->path);
 }
 
+/* A file of faults is written by confine alone, in place of what it has. */
+static void keep_faults_apart(const struct plan *plan, int i)
+{
+    const struct report *faults = &plan->faults[i];
+    keep_private(faults);
+    keep_report_apart(plan, faults);
+    for (int j = 0; j < plan->secret_count; j++)
+        if (is_placed_below(faults->path, plan->secrets[j].path)) refuse("%s: it lies in %s, and is no secret", faults->path, plan->secrets[j].path);
+    for (int j = 0; j < plan->report_count; j++)
+        if (is_same(faults->file, plan->reports[j].file)) refuse("%s: it is a report, and can't have faults", faults->path);
+    for (int j = 0; j < i; j++)
+        if (is_same(faults->file, plan->faults[j].file)) refuse("%s: it is to have the faults of two", faults->path);
+}
+
 void keep_apart(const struct plan *plan)
 {
     for (int i = 0; i < plan->secret_count; i++) {
@@ -100,6 +114,7 @@ void keep_apart(const struct plan *plan)
         keep_report_apart(plan, &plan->reports[i]);
         for (int j = 0; j < i; j++) keep_files_apart(&plan->reports[i], &plan->reports[j]);
     }
+    for (int i = 0; i < plan->faults_count; i++) keep_faults_apart(plan, i);
 }
 
 /* Whether a folder of the world may be the program's own: it is no secret's, and nothing that each program finds is below. */

@@ -65,10 +65,11 @@ static bool folder_of(pid_t pid, const struct seccomp_notif *asked, const struct
     return true;
 }
 
-/* Adds a path's parts to a path: "." and empty ones add nothing, ".." takes one away. */
-static bool add_parts(char *path, const char *parts)
+/* Adds a path's parts to a path: "." and empty ones add nothing, ".." takes one away, and a link of the plan leads on. */
+static bool add_parts(const struct plan *plan, char *path, const char *parts)
 {
     size_t length = strlen(path);
+    const char *real;
     while (*parts) {
         size_t count = strcspn(parts, "/");
         if (count == 2 && !strncmp(parts, "..", 2)) {
@@ -80,20 +81,21 @@ static bool add_parts(char *path, const char *parts)
             length += count;
         }
         path[length] = 0;
+        if (count && (real = link_at(plan, path))) length = strlen(strcpy(path, strcmp(real, "/") ? real : ""));
         parts += count;
         while (*parts == '/') parts++;
     }
     return true;
 }
 
-/* The path that a call names, from the root of the world, without a link being followed. */
-static bool path_of(pid_t pid, const struct seccomp_notif *asked, const struct naming *naming, char *path)
+/* The path that a call names, from the root of the world, without a link being followed but those of the plan. */
+static bool path_of(const struct plan *plan, pid_t pid, const struct seccomp_notif *asked, const struct naming *naming, char *path)
 {
     char text[PATH_MAX], folder[PATH_MAX] = "";
     if (!read_text(pid, asked->data.args[naming->path], text)) return false;
     if (*text != '/' && !folder_of(pid, asked, naming, folder)) return false;
     *path = 0;
-    return add_parts(path, folder) && add_parts(path, text);
+    return add_parts(plan, path, folder) && add_parts(plan, path, text);
 }
 
 int open_secret(struct plan *plan, struct family *family, int i)
@@ -128,15 +130,14 @@ static int open_report(struct plan *plan, struct family *family, int i, const st
     before_rise(plan, family);
     if (!holds_report(plan, family, i)) return EACCES;
     after_rise(family);
-    if (naming->kind != RENAMES) begin_report(plan, family, i, flags);
-    return 0;
+    return naming->kind == RENAMES ? 0 : begin_report(plan, family, i, flags);
 }
 
 /* What leads to a gate's program; -1 with errno where it may not be written to. */
 static int open_gate(struct plan *plan, struct family *family, int i, int flags)
 {
     errno = (flags & O_CREAT) && (flags & O_EXCL) ? EEXIST : EACCES;
-    if (errno == EEXIST || (flags & O_ACCMODE) == O_RDWR || !enters_gate(plan, family, i)) return -1;
+    if (errno == EEXIST || ((flags & O_ACCMODE) == O_RDWR && !plan->gates[i].answers) || !enters_gate(plan, family, i, family)) return -1;
     return open_way(plan, family, i);
 }
 
@@ -148,6 +149,14 @@ static void respond(int listener, uint64_t id, int error)
     answer.error = -error;
     answer.flags = error ? 0 : SECCOMP_USER_NOTIF_FLAG_CONTINUE;
     ioctl(listener, SECCOMP_IOCTL_NOTIF_SEND, &answer);
+}
+
+/* Answers once the program has of reports what it observes. */
+static void respond_risen(const struct plan *plan, struct family *family, uint64_t id, int error)
+{
+    if (!bring_reports(plan, family)) return;
+    respond(family->world.listener, id, error);
+    end_bringing();
 }
 
 /* Puts a descriptor into the program as the answer of its call. */
@@ -220,11 +229,11 @@ static void answer_naming(struct plan *plan, struct family *family, const struct
 {
     int listener = family->world.listener, flags = flags_of(asked, naming), file;
     int report = writes_to(asked, naming) ? report_at(plan, path) : -1, gate = writes_to(asked, naming) ? gate_at(plan, path) : -1;
-    if (report >= 0) respond(listener, asked->id, open_report(plan, family, report, naming, flags));
+    if (report >= 0) respond_risen(plan, family, asked->id, open_report(plan, family, report, naming, flags));
     else if (naming->kind == RENAMES) respond(listener, asked->id, 0);
     else if (writes_to(asked, naming) && is_read_only(plan, path)) respond(listener, asked->id, EROFS);
     else if (gate < 0 && !strcmp(path, RUN)) answer_run(family, asked->id);
-    else if (gate < 0) respond(listener, asked->id, open_secrets_at(plan, family, naming, path));
+    else if (gate < 0) respond_risen(plan, family, asked->id, open_secrets_at(plan, family, naming, path));
     else if ((file = open_gate(plan, family, gate, flags)) < 0) respond(listener, asked->id, errno);
     else hand_over(listener, asked->id, file, flags);
 }
@@ -241,7 +250,7 @@ void answer_call(struct plan *plan, struct family *family)
     if (asked.data.nr == SYS_futex) delay_wait(listener, asked.id, (pid_t)asked.pid, (const uint64_t *)asked.data.args);
     else if (asked.data.nr == SYS_sysinfo) answer_machine(listener, asked.id, (pid_t)asked.pid, asked.data.args[0]);
     /* A path that can't be read is one that the call itself will not find. */
-    else if (!naming || leads_nowhere_new(plan, family, &asked, naming) || !path_of((pid_t)asked.pid, &asked, naming, path))
+    else if (!naming || leads_nowhere_new(plan, family, &asked, naming) || !path_of(plan, (pid_t)asked.pid, &asked, naming, path))
         respond(listener, asked.id, 0);
     else answer_naming(plan, family, &asked, naming, path);
 }
@@ -255,5 +264,8 @@ void wake_at_once(int listener, bool does)
 bool begin_answers(const struct plan *plan, struct family *family)
 {
     wake_at_once(family->world.listener, true);
-    return note_reports(plan, family);
+    if (!note_reports(plan, family)) return false;
+    begin_program(&family->world, bring_reports(plan, family));
+    end_bringing();
+    return true;
 }

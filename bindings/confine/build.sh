@@ -18,20 +18,22 @@ room=$(mktemp -d)
 trap 'rm -rf "$room"' EXIT
 mkdir -p "$top/out"
 made="$top/out/confine"
-checks=
 # (it starts sooner where no library is looked for)
-linked=-static-pie
+linked() { "${CXX:-c++}" -static-pie "$@"; }
+set -- -U_FORTIFY_SOURCE -D_FORTIFY_SOURCE=3
 if [ -n "${CHECKED:-}" ]; then
     made="$top/out/confine-checked"
-    checks='-fsanitize=address,undefined -fno-sanitize-recover=all -g'
-    linked='-static-libstdc++ -static-libgcc'
+    linked() { "${CXX:-c++}" -fsanitize=address,undefined -static-libstdc++ -static-libgcc "$@"; }
+    set -- -fsanitize=address,undefined -fno-sanitize-recover=all -g
     "${CC:-cc}" -c "$top/bindings/confine/tried/checked.c" -o "$room/checked.o"
 fi
-strict='-std=c11 -O2 -fstack-protector-strong -Wall -Wextra -Wpedantic -Werror'
-"${CC:-cc}" $strict "$top/bindings/confine/filter/make.c" -lseccomp -o "$room/make"
+printf '#include <string>\nint main(int count, char **words) { return count > 1 ? (int)std::string(words[1]).size() : 0; }\n' > "$room/static.cpp"
+linked "$room/static.cpp" -o "$room/static" 2>/dev/null || lacks 'static libraries are missing: install those of libc and libstdc++ (glibc-static, libstdc++-static; Debian has them in libc6-dev and libstdc++-dev)'
+c() { "${CC:-cc}" -std=c11 -O2 -fstack-protector-strong -Wall -Wextra -Wpedantic -Werror "$@"; }
+c "$top/bindings/confine/filter/make.c" -lseccomp -o "$room/make"
 "$room/make" > "$room/filters.inc"
-"${CXX:-c++}" -std=c++17 $checks -O2 -fstack-protector-strong -Wall -Wextra -Werror -I"$top/include" -c "$top/bindings/confine/policy.cpp" -o "$room/policy.o"
+"${CXX:-c++}" -std=c++17 -O2 "$@" -fstack-protector-strong -Wall -Wextra -Werror -I"$top/include" -c "$top/bindings/confine/policy.cpp" -o "$room/policy.o"
 for file in "$top"/bindings/confine/*.c; do
-    "${CC:-cc}" $strict $checks -I"$top/include" -I"$room" -c "$file" -o "$room/$(basename "$file").o"
+    c "$@" -I"$top/include" -I"$room" -c "$file" -o "$room/$(basename "$file").o"
 done
-"${CXX:-c++}" $checks $linked "$room"/*.o -L"$library" -lhistar -o "$made"
+linked "$room"/*.o -L"$library" -lhistar -o "$made"

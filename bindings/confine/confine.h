@@ -31,7 +31,7 @@ extern "C" {
 #define ENDS _Noreturn
 #endif
 
-enum { MOST_CATEGORIES = 8, MOST_SECRETS = 8, MOST_REPORTS = 8, MOST_OPEN = 32, MOST_GATES = 8, MOST_WORDS = 16, MOST_RUNS = 16, MOST_PASSED = 64 };
+enum { MOST_CATEGORIES = 8, MOST_SECRETS = 8, MOST_REPORTS = 8, MOST_OPEN = 32, MOST_GATES = 8, MOST_WORDS = 16, MOST_RUNS = 16, MOST_PASSED = 64, MOST_FAULTS = 8, MOST_LINKS = 64 };
 
 /* The longest name of a category that a policy gives, or of a gate, in bytes. */
 enum { MOST_NAME = 31 };
@@ -64,7 +64,9 @@ struct report {
     struct levels levels;
     histar_object object;
     int file;        /* where it lies, by O_PATH */
-    int staged;      /* what gates have printed for it, until the end; -1 where none has */
+    int staged;      /* what gates have printed for it, or all that goes into a file of faults, until the end; -1 where there is none */
+    char *old;       /* what stood in it at the start, and how much; NULL where nothing did */
+    size_t old_size;
     int folder;      /* which of the plan's folders it stands in */
     bool is_refused; /* the program was refused it once */
 };
@@ -77,27 +79,35 @@ struct folder {
 };
 
 /* A gate: a program outside, which is trusted with what some categories keep. It reads what is written to /gate/NAME, and
- * what it prints goes to a report, or is shown. */
+ * what it prints goes to a report, to who opened it, or is shown. */
 struct gate {
     char name[MOST_NAME + 1];
     char words[MOST_WORDS][PATH_MAX]; /* the program and its arguments */
     int word_count;
     bool owns[MOST_CATEGORIES];
     int report; /* SHOWN where it has none */
+    bool answers;
     histar_object object;
     bool is_refused; /* the program was refused it once */
 };
 
 enum { SHOWN = -1 };
 
+/* A link that a path of the plan goes through: the world has it too. */
+struct link {
+    char *path, *text, *real;
+};
+
 struct plan {
     struct category categories[MOST_CATEGORIES];
     struct secret secrets[MOST_SECRETS];
     struct report reports[MOST_REPORTS];
     struct folder folders[MOST_REPORTS];
+    struct report faults[MOST_FAULTS]; /* where errors go that nobody is shown */
     struct gate gates[MOST_GATES];
+    struct link links[MOST_LINKS];
     char open[MOST_OPEN][PATH_MAX]; /* folders that it may read at any label */
-    int category_count, secret_count, report_count, folder_count, gate_count, open_count;
+    int category_count, secret_count, report_count, faults_count, folder_count, gate_count, link_count, open_count;
     struct levels born, clearance; /* the program's label at its start, and the highest that it may have */
     const char *passed[MOST_PASSED]; /* names of the environment that the program is given too */
     int passed_count;
@@ -125,13 +135,19 @@ struct world {
 struct family {
     histar_object thread;
     unsigned long number;            /* its own */
-    struct levels levels;            /* its label */
+    struct levels levels, clearance; /* its label, and the highest that it may have */
     bool prints;                     /* what it prints may be shown */
     bool is_open[MOST_SECRETS];      /* it has the secret in its world */
     bool holds_report[MOST_REPORTS]; /* it was given the report to write, for good */
     bool holds_gate[MOST_GATES];     /* it was given a way to the gate, for good */
-    bool replaces[MOST_REPORTS];     /* it opened the report not only to add to it */
-    bool empties[MOST_REPORTS];      /* it opened the report as an empty one */
+    histar_object answers[MOST_GATES]; /* what a gate answers it is written to, */
+    histar_object lent[MOST_GATES];    /* and what is answered to who has lent it a way */
+    off_t old[MOST_REPORTS];         /* so much of what stood in the report before is in its world */
+    bool is_begun[MOST_REPORTS];     /* it opened the report before: what stands there is its own */
+    bool adds[MOST_REPORTS];         /* it opened the report to add to it, */
+    bool replaces[MOST_REPORTS];     /* not only to add to it, */
+    bool empties[MOST_REPORTS];      /* or as an empty one */
+    int bringer;                     /* what tells that much of reports is in its world; 0 where nothing was to be brought */
     struct world world;
 };
 
@@ -154,8 +170,17 @@ int add_category(struct plan *plan, const char *name);
 /* What the plan gets more, with the label of a plain thing. The word is where it was asked for. */
 struct secret *add_secret(struct plan *plan, const char *word, const char *path);
 struct report *add_report(struct plan *plan, const char *word, const char *path);
+struct report *add_faults(struct plan *plan, const char *word, const char *path);
 void add_open(struct plan *plan, const char *word, const char *path);
 struct gate *add_gate(struct plan *plan, const char *name);
+
+/* ---- links.c ---- */
+
+/* Notes each link that a path goes through. */
+void note_links(struct plan *plan, const char *word, const char *path);
+
+/* What a link of the plan leads to, by its path; NULL where that is none. */
+const char *link_at(const struct plan *plan, const char *path);
 
 /* ---- apart.c: what may not lie in what ---- */
 
@@ -204,17 +229,27 @@ bool opens_secret(struct plan *plan, struct family *family, int secret);
 /* Whether the program may write a report. Its label rises to what the report observes. From then on it has it, for good. */
 bool holds_report(struct plan *plan, struct family *family, int report);
 
-/* Whether the program may write to a gate: a thread at its label enters the gate, and may write what the gate writes. From
- * then on the program has it, for good. */
-bool enters_gate(struct plan *plan, struct family *family, int gate);
+/* Whether the program observes a report, and so what stood in it before. */
+bool observes_report(const struct plan *plan, const struct family *family, int report);
 
-/* Whether a piece that the program writes to a gate gets through it now. */
-bool passes_gate(const struct plan *plan, const struct family *family, int gate);
+/* The first file of faults that the program may write, by a thread that it makes at the file's label; -1 where there is none. */
+int takes_faults(const struct plan *plan, const struct family *family);
 
-/* Whether what a gate's program makes may be shown, also where it goes to a report. */
-bool shows_gate(const struct plan *plan, int gate);
+/* Whether the program may write to a gate, whose answer another may get, or itself: a thread at its label enters the gate, and may
+ * write what the gate writes. From then on the program has it, for good. */
+bool enters_gate(struct plan *plan, struct family *family, int gate, const struct family *answered);
 
-/* Makes a thread for a program that another starts, at a label that is asked for: the other makes it. The refusal, or 0. */
+/* What a gate writes, whose answer a family gets. */
+histar_object behind_gate(const struct plan *plan, int gate, const struct family *answered);
+
+/* Whether a piece that a program of these levels writes to a gate gets through it to what the gate writes; and so whether the gate,
+ * which has such pieces, may write there. */
+bool passes_gate(const struct plan *plan, const struct levels *levels, int gate, histar_object behind);
+
+/* Whether what a gate's program makes of pieces of these levels may be shown, also where it goes to a report or is an answer. */
+bool shows_gate(const struct plan *plan, int gate, const struct levels *levels);
+
+/* Makes a thread for a program that another starts, at a label and with the family's clearance: the other makes it. The refusal, or 0. */
 uint32_t is_spawned(const struct plan *plan, const struct family *by, const struct levels *levels, struct family *family);
 
 /* Makes the thread anew of a family that waited, and was let go meanwhile: whether it may be made was asked before. */
@@ -223,8 +258,9 @@ void spawn_again(const struct plan *plan, struct family *family);
 /* A new object of a label, which one family writes and another reads. */
 histar_object make_between(const struct plan *plan, const struct levels *levels);
 
-/* An object or a thread goes. */
+/* An object or a thread goes; and what gates answered to a family. */
 void forget(histar_object object);
+void forget_answers(struct family *family);
 
 /* Whether a family may write what is between it and another, and read it. */
 bool writes_between(const struct family *writer, histar_object between);
@@ -239,7 +275,7 @@ bool write_dump(const struct plan *plan);
 void explain_write(const struct plan *plan, struct report *report, const struct levels *own);
 void explain_gate(const struct plan *plan, struct gate *gate, const struct levels *own, const struct levels *behind);
 void explain_held(const struct plan *plan, const char *path, bool *is_refused, const char *held);
-void explain_clearance(const struct plan *plan, const char *path, bool *is_refused, const struct levels *levels);
+void explain_clearance(const struct plan *plan, const struct family *family, const char *path, bool *is_refused, const struct levels *levels);
 
 /* Once the program has ended: what was withheld, and a line for each thing that was refused and not explained. */
 void tell_refused(const struct plan *plan, bool prints);
@@ -258,13 +294,17 @@ struct begun {
 bool begin_start(const struct plan *plan, const struct begun *begun, struct world *world);
 void go_on(const struct world *world);
 
-/* Waits until the program waits for the first answer. Where that fails a line said why, and it gives the status that confine ends
+/* Waits until the program waits for its first step. Where that fails a line said why, and it gives the status that confine ends
  * with; else 0. */
 int end_start(struct world *world);
 
-/* The broker has done with a world; its keeper ends by itself, and is waited for then. */
+/* The program makes its first step, unless another process has it do so. */
+void begin_program(struct world *world, bool is_here);
+
+/* The broker has done with a world; its keeper ends by itself, and is waited for then, as are others that end by themselves. */
 void close_world(struct world *world);
-void reap_keepers(void);
+void note_ending(pid_t process);
+void reap_ended(void);
 
 /* Ends with ENDS_UNABLE and a line: this machine lacks something. */
 ENDS void unable(const char *what);
@@ -349,11 +389,16 @@ bool is_same(int one, int other);
 /* What leads a family to a gate, to be handed out; -1 with errno. A family has at most MOST_RUNS of them. */
 int open_way(struct plan *plan, const struct family *family, int gate);
 
-/* The gate that a family's descriptor leads to, which is given to another from now on; -1 where it leads to none. */
-int lend_way(const struct family *family, int file);
+/* The gate that a family's descriptor leads to, which is given to another from now on; -1 where it leads to none. And the number of
+ * the way. */
+int lend_way(const struct family *family, int file, unsigned long *number);
 
-/* Starts a gate's program for a family, and gives what leads to its input; -1 with errno. */
-int begin_gate(struct plan *plan, const struct family *family, int gate);
+/* Starts a gate's program for a family, and gives what leads to its input; -1 with errno. What it answers goes back by the way of this
+ * number to who was given that. */
+int begin_gate(struct plan *plan, const struct family *family, int gate, unsigned long way);
+
+/* A family is at its end: no gate answers it. */
+void end_answers(const struct family *family);
 
 /* Whether something that a family wrote may be on its way. */
 bool has_ways(const struct family *family);
@@ -371,14 +416,23 @@ void kill_gates(int signal);
 
 /* ---- reports.c ---- */
 
-/* Each report by where it lies, so that no later name leads elsewhere. */
+/* Each report and file of faults by where it lies, so that no later name leads elsewhere. */
 void find_reports(struct plan *plan);
+
+/* Keeps what stands in each report, in case that a program may have it. */
+void keep_old(struct plan *plan);
 
 /* Notes the files that stand for the reports in a world that was just made. Whether all are there. */
 bool note_reports(const struct plan *plan, struct family *family);
 
-/* The program, which holds a report, opens it to write it, with these flags. */
-void begin_report(const struct plan *plan, struct family *family, int report, int flags);
+/* The program, which holds a report, opens it to write it, with these flags. An errno, 0 where it may. */
+int begin_report(const struct plan *plan, struct family *family, int report, int flags);
+
+/* Puts what stood in reports into a world whose program observes them. Where that is much another process of the broker's goes on
+ * here: true for that one, which answers the program in the broker's place and ends by end_bringing; and false for the broker. */
+bool bring_reports(const struct plan *plan, struct family *family);
+void end_bringing(void);
+void end_bringer(struct family *family);
 
 /* Begins to keep what gates print for a report; and what leads to the end of it, or -1. */
 bool stage(struct report *report);
@@ -389,6 +443,24 @@ void leave_reports(struct plan *plan, struct family *family);
 
 /* Once all has ended: adds all that was kept to the reports. Whether all was written, as far as that may be told. */
 bool lay_reports(struct plan *plan);
+
+/* Puts a file in place of what another has, or adds it from a byte on. Whether all of it was written; with errno. */
+bool copy_out(const struct report *report, int file, bool replaces, off_t from);
+
+/* ---- faults.c: errors and ends that nobody is shown ---- */
+
+/* Begins a file of faults, which has room from then on. */
+void begin_faults(struct report *faults);
+
+/* Notes what a program printed as errors, or how it ended, where it may write that. */
+void note_errors(const struct plan *plan, const struct family *family, const char *text, size_t length);
+void note_end(const struct plan *plan, const struct family *family, int status);
+
+/* Adds a line to a file of faults of the plan. */
+void note_line(const struct plan *plan, int faults, const char *form, ...) __attribute__((format(printf, 3, 4)));
+
+/* Once all has ended: each file of faults has what was noted, and nothing else. Whether all was written, as far as that may be told. */
+bool lay_faults(const struct plan *plan, bool prints);
 
 /* ---- broker.c ---- */
 
@@ -426,19 +498,21 @@ enum { STREAMS = 3 };
  * that the reader ends, or how fast it takes, is a write of the reader's and a read of the writer's. */
 struct stream {
     const struct plan *plan;
-    enum { TYPED, PRINTED, BETWEEN, TO_GATE } kind; /* from outside, to outside, from one family to another, or through a gate */
+    enum { TYPED, PRINTED, BETWEEN, TO_GATE, ANSWERED } kind; /* from outside, to outside, from one family to another, through a gate, or back */
     int gate;
     char *text;
     size_t size, count, begin;
     int from, to;                          /* -1 once it is at its end */
     int from_place, to_place;
     const struct family *writer, *reader;  /* NULL where it is outside, or has ended */
-    histar_object forth, back;             /* between two families: what the writer writes, and what the reader writes */
+    histar_object forth, back;             /* between two families: what the writer writes, and what the reader writes; or behind a gate */
+    struct levels given;                   /* the highest that a gate which answers was given */
     bool is_held;                          /* its reader may not have it: it waits for another */
     bool is_cut;                           /* its writer may not write it any more */
     bool is_stuck;                         /* its writer's end may not be seen */
     bool is_dropped;                       /* some of it was */
     bool is_lost;                          /* what it leads to could not be written */
+    bool is_errors;                        /* it has the errors of its writer */
 };
 
 /* A stream from nowhere to nowhere; and back to that. */
@@ -477,13 +551,14 @@ struct request {
     char *bytes, **texts, **words;
     struct begun begun;
     int files[STREAMS];
+    const char *label, *most; /* the highest that it may have; "" where that is the asker's */
 };
 
 /* Takes what a socket has; NULL where that is no request. */
 struct request *read_request(int socket);
 void drop_request(struct request *request);
 
-/* A label as its categories, each with a level or at 3: "health,money=2". */
+/* A label as its categories, each with a level or at 3: "health,money=2"; or "none". */
 bool read_label(const struct plan *plan, const char *text, struct levels *levels);
 
 /* ---- programs.c, spawn.c: the program, and those that it starts at a label ---- */
@@ -507,7 +582,8 @@ struct program {
     int socket_place, own_place, call_place;
     struct stream streams[STREAMS];
     int pins[STREAMS];            /* the pipes of the asker's that they lead to, or -1 */
-    int gates[STREAMS];           /* the gates, or -1 */
+    int gates[STREAMS];           /* the gates, or -1; and the ways */
+    unsigned long ways[STREAMS];
     histar_object in, out;        /* what is between the asker and what was started */
     struct levels by_levels;      /* the asker's label as he asked */
     bool is_hidden, is_killed, is_served; /* in this round */

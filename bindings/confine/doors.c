@@ -63,7 +63,9 @@ static bool answer_door(struct plan *plan, struct family *family, int secret)
     case FUSE_LOOKUP:
     case FUSE_OPENDIR:
         error = open_secret(plan, family, secret);
+        if (!bring_reports(plan, family)) break;
         answer(door, asked.head.unique, error ? error : ESTALE, NULL, 0);
+        end_bringing();
         break;
     case FUSE_FORGET:
     case FUSE_BATCH_FORGET:

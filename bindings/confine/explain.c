@@ -42,14 +42,14 @@ void explain_held(const struct plan *plan, const char *path, bool *is_refused, c
 }
 
 /* A line for what is above the program's clearance. */
-void explain_clearance(const struct plan *plan, const char *path, bool *is_refused, const struct levels *levels)
+void explain_clearance(const struct plan *plan, const struct family *family, const char *path, bool *is_refused, const struct levels *levels)
 {
     if (!is_first(plan, is_refused)) return;
     fprintf(stderr, "confine: refused to open %s:", path);
     for (int i = 0; i < plan->category_count; i++)
-        if (levels->in[i] > plan->clearance.in[i])
+        if (levels->in[i] > family->clearance.in[i])
             fprintf(stderr, " in the category of %s it is at %u, and the program's clearance at %u", plan->categories[i].name,
-                    levels->in[i], plan->clearance.in[i]);
+                    levels->in[i], family->clearance.in[i]);
     fputc('\n', stderr);
 }
 

@@ -16,6 +16,7 @@ static const char HELP[] =
     "Options:\n"
     "      --secret <FOLDER>  It may read this folder; from then on nothing that it prints is shown\n"
     "      --report <FILE>    It may write this file; after --secret, also once it has read that secret\n"
+    "      --faults <FILE>    Once it has read that secret, its errors and its status go to this file\n"
     "      --public <FOLDER>  It may read this folder too, as it may read /usr\n"
     "      --policy <FILE>    Labels, a clearance and gates, as docs/CONFINE.md has them\n"
     "      --env <NAME>       It is given this variable of the environment, besides PATH, LANG, TERM and other plain ones\n"

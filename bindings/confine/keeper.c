@@ -10,6 +10,7 @@
 #include <string.h>
 #include <sys/prctl.h>
 #include <sys/socket.h>
+#include <sys/stat.h>
 #include <sys/wait.h>
 #include <unistd.h>
 
@@ -22,8 +23,16 @@ struct ends {
     const struct begun *begun;
 };
 
+/* Where the keeper is told to go on, until it was. */
+static int go = -1;
+
+/* (What this machine lacks is not said of a plan that is found wrong meanwhile.) */
 ENDS void unable(const char *what)
 {
+    int error = errno;
+    char byte;
+    if (go >= 0 && read(go, &byte, 1) != 1) _exit(ENDS_UNABLE);
+    errno = error;
     fprintf(stderr, "confine: this machine can't confine: %s: %s\n", what, strerror(errno));
     exit(ENDS_UNABLE);
 }
@@ -61,6 +70,23 @@ static void add_run(void)
     setenv("PATH", path, 1);
 }
 
+/* Goes to the folder where the program begins. One of the asker's own folders is made, since the world has its own of these. */
+static void go_to(const char *folder)
+{
+    char at[PATH_MAX];
+    if (!folder || !chdir(folder)) return;
+    snprintf(at, sizeof at, "%s", folder);
+    for (char *end = at; (end = strchr(end + 1, '/'));) {
+        *end = 0;
+        mkdir(at, 0777);
+        *end = '/';
+    }
+    mkdir(at, 0777);
+    if (!chdir(folder)) return;
+    dprintf(2, "confine: %s: %s\n", folder, strerror(errno));
+    _exit(126);
+}
+
 /* The program. Its standard error is confine's own until nothing can fail any more but the program itself. 0 to 2 stay, and the
  * socket and the fourth go as the program begins. */
 _Noreturn static void become_program(const struct ends *ends)
@@ -83,7 +109,8 @@ _Noreturn static void become_program(const struct ends *ends)
     if (dup2(4, 2) < 0 || close(4)) _exit(ENDS_FAULT);
     environ = begun->environment;
     add_run();
-    if (!begun->folder || !chdir(begun->folder)) execvp(begun->words[0], begun->words);
+    go_to(begun->folder);
+    execvp(begun->words[0], begun->words);
     dprintf(2, "confine: %s: %s\n", begun->words[0], strerror(errno));
     _exit(errno == ENOENT ? 127 : 126);
 }
@@ -162,6 +189,7 @@ _Noreturn static void run_keeper(const struct plan *plan, struct ends *ends, int
     int entered[2];
     char byte;
     pid_t first;
+    go = socket;
     lower_files();
     setsid();
     NEEDS(ends->proc = open("/proc", O_PATH | O_DIRECTORY | O_CLOEXEC));
@@ -172,6 +200,7 @@ _Noreturn static void run_keeper(const struct plan *plan, struct ends *ends, int
     NEEDS(prctl(PR_SET_PDEATHSIG, SIGKILL, 0, 0, 0));
     take_user(user, group);
     if (read(socket, &byte, 1) != 1) _exit(ENDS_FAULT);
+    go = -1;
     make_world(plan);
     if (!send_world(plan, socket)) _exit(ENDS_FAULT);
     NEEDS(first = fork());
@@ -250,22 +279,22 @@ static bool receive_world(struct world *world)
     return true;
 }
 
-/* The keepers that are to end, so that none is left as one that nobody waited for. */
+/* The processes that are to end, so that none is left as one that nobody waited for. */
 static pid_t *ending;
 static int ending_count;
 
-void reap_keepers(void)
+void reap_ended(void)
 {
     for (int i = ending_count; i-- > 0;)
         if (waitpid(ending[i], NULL, WNOHANG)) ending[i] = ending[--ending_count];
 }
 
-static void note_ending(pid_t keeper)
+void note_ending(pid_t process)
 {
     pid_t *more = realloc(ending, (size_t)(ending_count + 1) * sizeof *ending);
     if (!more) return;
     ending = more;
-    ending[ending_count++] = keeper;
+    ending[ending_count++] = process;
 }
 
 static void close_one(int *file)
@@ -297,13 +326,20 @@ static int status_of_keeper(struct world *world)
     return told;
 }
 
+/* (One that has ended already makes none: its end is told later.) */
+void begin_program(struct world *world, bool is_here)
+{
+    if (is_here && send(world->program_socket, "g", 1, MSG_NOSIGNAL) < 0) {}
+    close_one(&world->program_socket);
+}
+
 int end_start(struct world *world)
 {
     int status;
     bool is_there;
     if (receive_world(world)) world->listener = receive_descriptor(world->program_socket);
     is_there = receive_number(world->keeper_socket, &status);
-    if (is_there && world->listener >= 0 && write(world->program_socket, "g", 1) == 1) return close_one(&world->program_socket), 0;
+    if (is_there && world->listener >= 0) return 0;
     close_one(&world->program_socket);
     status = status_of_keeper(world);
     close_one(&world->input);

@@ -48,6 +48,7 @@ static void make_own_streams(struct plan *plan, struct program *program)
         struct stream *stream = &program->streams[i];
         stream->plan = plan;
         stream->kind = i ? PRINTED : TYPED;
+        stream->is_errors = i == 2;
         stream->from = i ? world->printed[i - 1] : world->input < 0 ? -1 : own_end(0, O_RDONLY);
         stream->to = i ? own_end(i, O_WRONLY) : world->input;
         if (i) stream->writer = program->family;
@@ -82,6 +83,7 @@ int main(int count, char **words)
     raise_files();
     if (!begin_start(&plan, &begun, &family.world)) unable("a start");
     keep_apart(&plan);
+    keep_old(&plan);
     go_on(&family.world);
     make_objects(&plan);
     if (!is_born(&plan, &family)) refuse("the program's label is above its clearance");

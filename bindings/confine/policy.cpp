@@ -117,6 +117,7 @@ void take_category(const Reading &reading, const toml::node &node)
     std::string name = name_of(reading, node);
     for (int i = 0; i < reading.into->category_count; i++)
         if (name == reading.into->categories[i].name) fault(reading, node, "named twice: " + name);
+    if (name == "none") fault(reading, node, "none is the label of no category");
     add_category(reading.into, name.c_str());
 }
 
@@ -148,6 +149,18 @@ void take_write(const Reading &reading, const toml::node &node)
     take_levels(reading, table, "label", 0, report->levels);
 }
 
+/* Errors that are shown need no file. */
+void take_faults(const Reading &reading, const toml::node &node)
+{
+    const toml::table &table = table_of(reading, node);
+    has_only(reading, table, {"file", "label"});
+    report *faults = add_faults(reading.into, place_of(reading, node).c_str(), path_in(reading, table, "file").c_str());
+    take_levels(reading, table, "label", 0, faults->levels);
+    for (int i = 0; i < reading.into->category_count; i++)
+        if (faults->levels.in[i] > 1) return;
+    fault(reading, node, "a label above 1 is wanted: other errors are shown");
+}
+
 void take_program(const Reading &reading, const toml::table &policy)
 {
     const toml::node *node = policy.get("program");
@@ -169,10 +182,20 @@ int report_of(const Reading &reading, const toml::table &table)
     fault(reading, *table.get("file"), "no file of [[write]]");
 }
 
+/* Whether a gate's output goes back to who writes to it, and so to no file. */
+bool answers(const Reading &reading, const toml::table &table)
+{
+    const toml::node *node = table.get("answers");
+    if (node && !node->is_boolean()) fault(reading, *node, "true or false is wanted");
+    bool does = node && node->as_boolean()->get();
+    if (does && table.get("file")) fault(reading, *node, "a gate answers or writes a file");
+    return does;
+}
+
 void take_gate(const Reading &reading, const toml::node &node)
 {
     const toml::table &table = table_of(reading, node);
-    has_only(reading, table, {"name", "program", "owns", "file"});
+    has_only(reading, table, {"name", "program", "owns", "file", "answers"});
     if (!table.get("name")) fault(reading, node, "name is wanted");
     std::string name = name_of(reading, *table.get("name"));
     if (GATES "/" + name == RUN) fault(reading, node, "confine has a gate of its own named " + name);
@@ -184,6 +207,7 @@ void take_gate(const Reading &reading, const toml::node &node)
     if (!gate->word_count) fault(reading, node, "program is wanted");
     each(reading, table, "owns", [&](const toml::node &it) { gate->owns[category_of(reading, it, text_of(reading, it))] = true; });
     gate->report = report_of(reading, table);
+    gate->answers = answers(reading, table);
 }
 
 /* How large a policy is, how deep its brackets nest, and how many dots a key has. */
@@ -257,10 +281,11 @@ std::string text_of_file(const char *path)
 
 void take_all(const Reading &reading, const toml::table &policy)
 {
-    has_only(reading, policy, {"categories", "read", "write", "public", "program", "gate"});
+    has_only(reading, policy, {"categories", "read", "write", "faults", "public", "program", "gate"});
     each(reading, policy, "categories", [&](const toml::node &it) { take_category(reading, it); });
     each(reading, policy, "read", [&](const toml::node &it) { take_read(reading, it); });
     each(reading, policy, "write", [&](const toml::node &it) { take_write(reading, it); });
+    each(reading, policy, "faults", [&](const toml::node &it) { take_faults(reading, it); });
     each(reading, policy, "public", [&](const toml::node &it) {
         std::filesystem::path path = text_of(reading, it);
         if (!path.is_absolute()) path = std::filesystem::path(reading.file).parent_path() / path;

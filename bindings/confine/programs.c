@@ -155,6 +155,9 @@ static void finish(struct plan *plan, struct program *program)
     mask(program);
     each_stream(family, end_of);
     leave_reports(plan, family);
+    end_bringer(family);
+    end_answers(family);
+    forget_answers(family);
     if (program->by) forget(program->in);
     program->in = HISTAR_NOTHING;
     close_world(&family->world);
@@ -175,12 +178,19 @@ static void end_if_silent(struct program *program)
     program->stage = ENDING;
 }
 
+int status_of(const struct program *program)
+{
+    bool is_lost = program->streams[1].is_lost || program->streams[2].is_lost;
+    return program->status < 0 || (is_lost && !program->status) ? ENDS_FAULT : program->status;
+}
+
 /* The keeper tells the status once it has seen the program's end. */
 static void serve_ending(struct plan *plan, struct program *program)
 {
     const int size = sizeof program->status;
     if (program->stage != ENDING || !came(program->own_place)) return;
     if (recv(program->family->world.keeper_socket, &program->status, (size_t)size, MSG_DONTWAIT) != size) program->status = -1;
+    note_end(plan, program->family, status_of(program));
     finish(plan, program);
 }
 
@@ -292,12 +302,6 @@ void serve_program(struct plan *plan, struct program *program)
     for (int i = 0; i < STREAMS; i++) serve_stream(&program->streams[i]);
     if (program->stage == RUNNING) answer_calls(plan, program);
     serve_ending(plan, program);
-}
-
-int status_of(const struct program *program)
-{
-    bool is_lost = program->streams[1].is_lost || program->streams[2].is_lost;
-    return program->status < 0 || (is_lost && !program->status) ? ENDS_FAULT : program->status;
 }
 
 void put_away_programs(void)

@@ -6,7 +6,7 @@
 #include <sys/socket.h>
 #include <unistd.h>
 
-enum { MOST_ASKED = 128 << 10, MOST_TEXTS = 4096 };
+enum { MOST_ASKED = 128 << 10, MOST_TEXTS = 4096, FIRST_WORD = 4 };
 
 /* The descriptors that came with a message; false where there are not three. Whatever came is taken, so that none is left open. */
 static bool take_files(struct msghdr *message, int *files)
@@ -25,7 +25,7 @@ static bool take_files(struct msghdr *message, int *files)
     return count == STREAMS;
 }
 
-/* Splits what came: a label, the folder, how many words, the words, and the environment. */
+/* Splits what came: a label, the highest one, the folder, how many words, the words, and the environment. */
 static bool split(struct request *request, size_t length)
 {
     int at = 0;
@@ -33,11 +33,13 @@ static bool split(struct request *request, size_t length)
     request->bytes[length] = 0;
     for (char *it = request->bytes; it < request->bytes + length && at < MOST_TEXTS; it += strlen(it) + 1) request->texts[at++] = it;
     request->texts[at] = NULL;
-    count = at >= 4 ? strtol(request->texts[2], NULL, 10) : 0;
-    if (count < 1 || count > at - 3) return false;
-    memcpy(request->words, request->texts + 3, (size_t)count * sizeof *request->words);
+    count = at > FIRST_WORD ? strtol(request->texts[FIRST_WORD - 1], NULL, 10) : 0;
+    if (count < 1 || count > at - FIRST_WORD) return false;
+    memcpy(request->words, request->texts + FIRST_WORD, (size_t)count * sizeof *request->words);
     request->words[count] = NULL;
-    request->begun = (struct begun){request->words, request->texts + 3 + count, request->texts[1], true};
+    request->label = request->texts[0];
+    request->most = request->texts[1];
+    request->begun = (struct begun){request->words, request->texts + FIRST_WORD + count, request->texts[2], true};
     return true;
 }
 
@@ -103,6 +105,7 @@ static int category_of(const struct plan *plan, const char *name, size_t length)
 bool read_label(const struct plan *plan, const char *text, struct levels *levels)
 {
     memset(levels->in, 1, sizeof levels->in);
+    if (!strcmp(text, "none")) return true;
     while (*text) {
         size_t length = strcspn(text, ",="), level = 3;
         int category = category_of(plan, text, length);

@@ -10,10 +10,11 @@
 #include <unistd.h>
 
 static const char USAGE[] =
-    "confine-run LABEL -- PROGRAM ARGUMENT..\n"
+    "confine-run LABEL [--at-most LABEL] -- PROGRAM ARGUMENT..\n"
     "\n"
     "Starts a program within confine in a world of its own, at a label: the categories that it may know, as in\n"
     "health,money=2; none for a program that may know no secret yet. A secret's category is named as its folder.\n"
+    "With --at-most its label never rises above that one, nor does that of what it starts.\n"
     "What it prints is handed on where the reader may have it. It ends with the program's status, or at once with 0\n"
     "where that may not be known. 2: wrong words; 69: refused.\n";
 
@@ -55,14 +56,17 @@ int ask_run(int count, char **words)
     const char *line;
     ssize_t got;
     int socket;
-    if (count < 4 || strcmp(words[2], "--")) return fputs(USAGE, stderr), ENDS_USAGE;
+    bool is_bounded = count > 4 && !strcmp(words[2], "--at-most");
+    int begin = is_bounded ? 5 : 3;
+    if (count <= begin || strcmp(words[begin - 1], "--") || (is_bounded && !*words[3])) return fputs(USAGE, stderr), ENDS_USAGE;
     while ((socket = open(RUN, O_RDWR | O_CLOEXEC)) < 0 && errno == EAGAIN) nanosleep(&A_WHILE, NULL);
     if (socket < 0) fail(ENDS_UNABLE, RUN);
-    snprintf(number, sizeof number, "%d", count - 3);
-    add(strcmp(words[1], "none") ? words[1] : "");
+    snprintf(number, sizeof number, "%d", count - begin);
+    add(words[1]);
+    add(is_bounded ? words[3] : "");
     add(getcwd(folder, sizeof folder) ? folder : "/");
     add(number);
-    for (int i = 3; i < count; i++) add(words[i]);
+    for (int i = begin; i < count; i++) add(words[i]);
     for (char **it = environ; *it; it++) add(*it);
     if (!send_asked(socket)) fail(ENDS_UNABLE, RUN);
     close(0), close(1);

@@ -93,7 +93,7 @@ static void serve_round(struct plan *plan)
     serve_gates(plan);
     put_away_programs();
     begin_waiting(plan);
-    reap_keepers();
+    reap_ended();
     look_for_turns();
 }
 
@@ -167,6 +167,7 @@ int serve(struct plan *plan, struct program *program)
     bool prints = program->family->prints, are_laid;
     end_programs(plan);
     are_laid = lay_reports(plan);
+    are_laid = lay_faults(plan, prints) && are_laid;
     tell_refused(plan, prints);
     if (ended_by) return 128 + ended_by;
     if (!prints) return 0;

@@ -52,7 +52,7 @@ static bool ready(struct program *program)
     int *files = program->request->files;
     for (int i = 0; i < STREAMS; i++) {
         int made = -1;
-        if (i) program->gates[i] = lend_way(program->by, files[i]);
+        if (i) program->gates[i] = lend_way(program->by, files[i], &program->ways[i]);
         if (program->gates[i] < 0) {
             program->pins[i] = is_pipe(files[i]) ? pin(files[i]) : -1;
             made = unblocked(files[i], i ? O_WRONLY : O_RDONLY);
@@ -92,12 +92,13 @@ static void join_all(struct program *program)
 }
 
 /* What leads to a gate goes through it as this program. */
-static void lead_to_gate(struct plan *plan, struct program *program, struct stream *stream, int gate)
+static void lead_to_gate(struct plan *plan, struct program *program, struct stream *stream, int i)
 {
     stream->kind = TO_GATE;
-    stream->gate = gate;
+    stream->gate = program->gates[i];
     stream->reader = NULL;
-    if (enters_gate(plan, program->family, gate)) stream->to = begin_gate(plan, program->family, gate);
+    stream->forth = behind_gate(plan, stream->gate, program->by);
+    if (enters_gate(plan, program->family, stream->gate, program->by)) stream->to = begin_gate(plan, program->family, stream->gate, program->ways[i]);
 }
 
 /* Its streams, between the world that was made and the descriptors of who asked. */
@@ -110,13 +111,14 @@ static void make_streams(struct plan *plan, struct program *program)
         *stream = no_stream();
         stream->plan = plan;
         stream->kind = BETWEEN;
+        stream->is_errors = i == 2;
         stream->writer = i ? program->family : program->by;
         stream->reader = i ? program->by : program->family;
         stream->forth = i ? program->out : program->in;
         stream->back = i ? program->in : program->out;
         stream->from = i ? world->printed[i - 1] : file;
         stream->to = i ? file : world->input;
-        if (program->gates[i] >= 0) lead_to_gate(plan, program, stream, program->gates[i]);
+        if (program->gates[i] >= 0) lead_to_gate(plan, program, stream, i);
         else if (i && program->is_hidden) hold(stream);
         else settle(stream);
         if (stream->to < 0 && !stream->is_held) end_reader(stream);
@@ -197,9 +199,12 @@ void begin_waiting(struct plan *plan)
 static const char *make(struct plan *plan, struct program *program)
 {
     static char line[128];
+    const struct request *request = program->request;
     struct levels levels;
     uint32_t refusal;
-    if (!read_label(plan, program->request->texts[0], &levels)) return "no such label";
+    program->family->clearance = program->by->clearance;
+    if (!read_label(plan, request->label, &levels)) return "no such label";
+    if (*request->most && !read_label(plan, request->most, &program->family->clearance)) return "no such label";
     if (are_most_made()) return "no place";
     if (!ready(program)) return "a stream is no pipe, socket or file";
     if ((refusal = is_spawned(plan, program->by, &levels, program->family))) {

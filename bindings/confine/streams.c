@@ -61,16 +61,20 @@ static ssize_t put(int file, const void *text, size_t length)
 /* Whether the writer may write now, and the reader read what was written. */
 static bool may_write(const struct stream *stream)
 {
+    if (stream->kind == ANSWERED) return passes_gate(stream->plan, &stream->given, stream->gate, stream->forth);
     if (!stream->writer) return true;
     switch (stream->kind) {
     case PRINTED: return stream->writer->prints;
-    case TO_GATE: return passes_gate(stream->plan, stream->writer, stream->gate);
+    case TO_GATE: return passes_gate(stream->plan, &stream->writer->levels, stream->gate, stream->forth);
     case BETWEEN: return writes_between(stream->writer, stream->forth);
     default: return true;
     }
 }
 
-static bool may_read(const struct stream *stream) { return stream->kind != BETWEEN || reads_between(stream->reader, stream->forth); }
+static bool may_read(const struct stream *stream)
+{
+    return (stream->kind != BETWEEN && stream->kind != ANSWERED) || reads_between(stream->reader, stream->forth);
+}
 
 /* Whether the writer may know what the reader does: how fast it takes, and that it takes no more. That is a write of the reader's. */
 static bool may_know(const struct stream *stream)
@@ -106,7 +110,11 @@ void take(struct stream *stream)
     if (count <= 0) {
         close_end(&stream->from);
         stream->is_stuck = !stream->is_cut && stream->kind == BETWEEN && !may_write(stream);
-    } else if (is_kept && !stream->is_cut && may_write(stream)) stream->count += (size_t)count;
+        end_if_empty(stream);
+        return;
+    }
+    if (stream->is_errors && stream->writer) note_errors(stream->plan, stream->writer, is_kept ? stream->text + stream->count : lost, (size_t)count);
+    if (is_kept && !stream->is_cut && may_write(stream)) stream->count += (size_t)count;
     else stream->is_dropped = true;
     end_if_empty(stream);
 }

@@ -19,13 +19,14 @@ ENDS void refuse(const char *form, ...)
     exit(ENDS_USAGE);
 }
 
-/* The real path of a folder or of a file. */
-static void resolve(const char *word, const char *path, bool is_folder, char *real)
+/* The real path of a folder or of a file. The links that lead there are noted. */
+static void resolve(struct plan *plan, const char *word, const char *path, bool is_folder, char *real)
 {
     struct stat found;
     if (!realpath(path, real) || stat(real, &found)) refuse("%s: %s is not there", word, path);
     if (S_ISDIR(found.st_mode) != is_folder) refuse("%s: %s is no %s", word, path, is_folder ? "folder" : "file");
     if (!is_folder && !S_ISREG(found.st_mode)) refuse("%s: %s is no plain file", word, path);
+    note_links(plan, word, path);
 }
 
 static struct levels plain(void)
@@ -47,30 +48,44 @@ struct secret *add_secret(struct plan *plan, const char *word, const char *path)
 {
     struct secret *secret = &plan->secrets[plan->secret_count];
     if (plan->secret_count == MOST_SECRETS) refuse("at most %d secrets", MOST_SECRETS);
-    resolve(word, path, true, secret->path);
+    resolve(plan, word, path, true, secret->path);
     secret->levels = plain();
     plan->secret_count++;
     return secret;
 }
 
-/* A report that isn't there is made, empty, and for its user alone. */
+/* A file that isn't there is made, empty, and for its user alone. */
+static void find_file(struct plan *plan, const char *word, const char *path, struct report *file)
+{
+    int made = open(path, O_WRONLY | O_APPEND | O_CREAT | O_NONBLOCK | O_CLOEXEC, 0600);
+    if (made < 0) refuse("%s: %s can't be written", word, path);
+    close(made);
+    resolve(plan, word, path, false, file->path);
+    file->levels = plain();
+}
+
 struct report *add_report(struct plan *plan, const char *word, const char *path)
 {
     struct report *report = &plan->reports[plan->report_count];
-    int made;
     if (plan->report_count == MOST_REPORTS) refuse("at most %d reports", MOST_REPORTS);
-    if ((made = open(path, O_WRONLY | O_APPEND | O_CREAT | O_NONBLOCK | O_CLOEXEC, 0600)) < 0) refuse("%s: %s can't be written", word, path);
-    close(made);
-    resolve(word, path, false, report->path);
-    report->levels = plain();
+    find_file(plan, word, path, report);
     plan->report_count++;
     return report;
+}
+
+struct report *add_faults(struct plan *plan, const char *word, const char *path)
+{
+    struct report *faults = &plan->faults[plan->faults_count];
+    if (plan->faults_count == MOST_FAULTS) refuse("at most %d files of faults", MOST_FAULTS);
+    find_file(plan, word, path, faults);
+    plan->faults_count++;
+    return faults;
 }
 
 void add_open(struct plan *plan, const char *word, const char *path)
 {
     if (plan->open_count == MOST_OPEN) refuse("at most %d public folders", MOST_OPEN);
-    resolve(word, path, true, plan->open[plan->open_count++]);
+    resolve(plan, word, path, true, plan->open[plan->open_count++]);
 }
 
 struct gate *add_gate(struct plan *plan, const char *name)
@@ -102,6 +117,13 @@ static void take_report(struct plan *plan, const struct words *words, const char
     if (words->category >= 0) report->levels.in[words->category] = 3;
 }
 
+/* Errors that are shown need no file: so its label is a secret's. */
+static void take_faults(struct plan *plan, const struct words *words, const char *path)
+{
+    if (words->category < 0) refuse("--faults: it stands after the --secret whose errors it has");
+    add_faults(plan, "--faults", path)->levels.in[words->category] = 3;
+}
+
 static void take_passed(struct plan *plan, const char *name)
 {
     if (!*name || strchr(name, '=')) refuse("--env: %s is no name", name);
@@ -111,7 +133,7 @@ static void take_passed(struct plan *plan, const char *name)
 
 static bool takes_value(struct plan *plan, struct words *words, const char *word, const char *value)
 {
-    static const char *const NAMES[] = {"--secret", "--report", "--public", "--audit", "--policy", "--env"};
+    static const char *const NAMES[] = {"--secret", "--report", "--public", "--audit", "--policy", "--env", "--faults"};
     const size_t count = sizeof NAMES / sizeof *NAMES;
     size_t at = 0;
     while (at < count && strcmp(word, NAMES[at])) at++;
@@ -123,6 +145,7 @@ static bool takes_value(struct plan *plan, struct words *words, const char *word
     if (at == 3) plan->dump = value;
     if (at == 4) read_policy(value, plan);
     if (at == 5) take_passed(plan, value);
+    if (at == 6) take_faults(plan, words, value);
     return true;
 }
 

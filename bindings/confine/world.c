@@ -347,6 +347,30 @@ static void make_secret_place(const char *path, int i)
     put_tree(tree, path, true);
 }
 
+/* Whether a link stands in a folder that is put into the world as it is. */
+static bool is_put(const struct plan *plan, const char *path)
+{
+    for (int i = 0; i < plan->open_count; i++)
+        if (is_below(path, plan->open[i])) return true;
+    for (int i = 0; i < plan->secret_count; i++)
+        if (is_below(path, plan->secrets[i].path)) return true;
+    for (const char *const *it = ALWAYS; *it; it++)
+        if (is_below(path, *it)) return true;
+    return false;
+}
+
+/* The links that lead to what the plan names. No part of a link's own path is a link: so each is made in the world. */
+static void make_links(const struct plan *plan)
+{
+    for (int i = 0; i < plan->link_count; i++) {
+        char at[PATH_MAX + sizeof BASE];
+        if (is_put(plan, plan->links[i].path)) continue;
+        make_above(plan->links[i].path);
+        snprintf(at, sizeof at, "%s%s", BASE, plan->links[i].path);
+        if (symlink(plan->links[i].text, at) && errno != EEXIST) unable(plan->links[i].path);
+    }
+}
+
 /* This program, which asks for starts in the world. */
 static int own_tree(void)
 {
@@ -380,6 +404,7 @@ void make_world(const struct plan *plan)
         if (report_trees[i] >= 0 && is_seen(plan, &plan->reports[i])) put_tree(report_trees[i], plan->reports[i].path, false);
     if (run >= 0) put_tree(run, RUN_FOLDER "/" RUN_NAME, false);
     make_place("/proc", true);
+    make_links(plan);
 }
 
 int open_scratch(void)

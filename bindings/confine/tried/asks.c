@@ -19,7 +19,7 @@ static uint64_t draw(uint64_t below)
 /* A true request of a program that ends at once, with drawn bytes in it, or a drawn number of words. */
 static size_t draw_text(char *text)
 {
-    static const char BEGIN[] = "\0/", END[] = "/bin/true\0A=b";
+    static const char BEGIN[] = "\0\0/", END[] = "/bin/true\0A=b";
     unsigned words = draw(4) ? 1 : (unsigned)draw(draw(2) ? 8 : 1u << 31);
     size_t length = sizeof BEGIN;
     memcpy(text, BEGIN, length);
