@@ -12,7 +12,7 @@ import sys
 import time
 
 from gate.hosts import hosts_for
-from gate.liar import Liar, answered, certify, give_roles
+from gate.liar import Liar, answered, certify, configured, give_roles
 
 CRATE = "bindings/rust/histar-etcd"
 BASE = 23790
@@ -69,7 +69,10 @@ class Faults:
 
     def operator(self, what, *words):
         """Asks for something of the cluster as its operator."""
-        return self.call(f"{self.programs}/histar-cluster", what, "faults", ",".join(self.members), *words, *(f"{self.tls}/{it}" for it in ("ca.pem", "operator.pem", "operator.key")))
+        config = f"{self.folder}/operator.toml"
+        with open(config, "w", encoding="utf-8") as it:
+            it.write(configured("faults", self.members, "operator", pages=1024, interval=1000))
+        return self.call(f"{self.programs}/histar-cluster", what, config, *words)
 
     def node(self, it, left):
         self.starts[it] += 1
@@ -156,7 +159,7 @@ class Faults:
         try:
             time.sleep(3)
             give_roles(self, "n0 n1 n2 check evil")
-            status, said = self.operator("begin", "n0", "1024", "1000")
+            status, said = self.operator("begin", "n0")
             if status != 0:
                 return False, said
             status, said = self.call(f"{self.programs}/examples/caller", "prepare", "faults", ",".join(self.members), "n0", "n1", "n2")

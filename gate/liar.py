@@ -24,6 +24,14 @@ def certify(folder, hosts, users):
         subprocess.run(["sh", "-c", step], cwd=folder, stdout=subprocess.DEVNULL, stderr=subprocess.DEVNULL, check=True)
 
 
+def configured(cluster, members, user, **fields):
+    """A configuration, beside whose file the folder tls stands."""
+    lines = [f'cluster = "{cluster}"', f"members = {json.dumps(members)}"]
+    lines += [f"{name} = {json.dumps(value)}" for name, value in fields.items()]
+    lines += ["[tls]", 'authority = "tls/ca.pem"', f'certificate = "tls/{user}.pem"', f'key = "tls/{user}.key"']
+    return "\n".join(lines) + "\n"
+
+
 def give_roles(faults, nodes):
     """Does what docs/CLUSTER.md has done, for these nodes."""
     block = text("docs/CLUSTER.md").split("```sh\n")[1].split("```")[0]

@@ -4,7 +4,9 @@ mod model;
 
 use histar_cluster::engine::{Answer, Answers, Engine, Request};
 use histar_cluster::memory::{Memory, Store};
-use histar_cluster::{beginning, void, Fault, Item, Name, Node, Options, Output, Receipt, Running, Told, Uncalled};
+use histar_cluster::{
+    beginning, void, Fault, Item, Name, Node, Options, Output, Receipt, Running, Told, Uncalled, Unread, Unsettled,
+};
 use model::{Call, Model, Reply};
 use std::collections::{BTreeSet, VecDeque};
 use std::sync::atomic::{AtomicBool, AtomicU64, Ordering};
@@ -75,7 +77,7 @@ fn a_read_sees_what_its_note_tells() {
         assert_eq!(north.reaches(note), Ok(()));
     }
     let other = histar_cluster::Note { engine: 99, place: 1 };
-    assert_eq!(north.reaches(other), Err(Fault::OtherEngine));
+    assert_eq!(north.reaches(other), Err(Unread::OtherEngine));
 }
 
 #[test]
@@ -269,7 +271,7 @@ fn unknown_rules_stop_each_node_at_their_place() {
     let fault = Fault::UnknownRules { rules: 3, place };
     assert_eq!((waiting.wait(), stops(&south)), (None, fault.clone()));
     assert_eq!(north.latest(), Err(Uncalled::Stopped(fault.clone())));
-    assert_eq!(reader.read(|model| model.replies.len()), Err(fault));
+    assert_eq!(reader.read(|model| model.replies.len()), Err(Unread::Stopped(fault)));
 }
 
 #[test]

@@ -112,8 +112,7 @@ fn with_roles(port: u16) -> Option<Tls> {
     assert!(it.shell(&documented(), "root"), "the commands of docs/CLUSTER.md");
     let operator = it.etcd("operator");
     let begins = |node: &str| {
-        let (key, value) = beginning::<Model>(&options(node));
-        operator.put_new(&key, &value)
+        operator.put_new(&[beginning::<Model>(&options(node))])
     };
     assert_eq!([begins("north"), begins("south")], [Ok(true), Ok(false)]);
     Some(it)

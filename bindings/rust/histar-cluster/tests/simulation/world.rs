@@ -68,6 +68,8 @@ struct Process<P: Player> {
     paused: u64,
     /// It is away until the others have gone on past this place.
     left: Option<u64>,
+    /// The last incarnation that it had.
+    incarnation: Option<u64>,
     inbox: Vec<(u64, u64, Answer)>,
     watch: Option<Watch>,
     /// What was submitted under a ticket.
@@ -110,6 +112,8 @@ pub struct World<P: Player> {
     random: Random,
     /// Whether a node has memory is chosen apart, so that all else of a seed is the same with it and without.
     memory: Random,
+    /// The same of whether a node is told to end.
+    ending: Random,
     store: Store,
     sent: Vec<Sent>,
     /// Requests that arrive once so many steps were done.
@@ -155,6 +159,7 @@ impl<P: Player> World<P> {
         let mut world = World {
             random: Random(seed),
             memory: Random(!seed),
+            ending: Random(seed ^ 0x5555_5555),
             store: Store::new(),
             sent: Vec::new(),
             held: BTreeMap::new(),
@@ -221,6 +226,7 @@ impl<P: Player> World<P> {
             start: self.starts,
             paused: 0,
             left: None,
+            incarnation: None,
             inbox: Vec::new(),
             watch: None,
             waiting: BTreeMap::new(),
@@ -274,6 +280,8 @@ impl<P: Player> World<P> {
             self.restart(process);
         } else if self.fault(80) {
             self.pause(process);
+        } else if self.ending.hits(40) && !self.is_quiet {
+            self.ends(process);
         } else if self.aimed(AWAY) {
             self.leave(process);
         } else if self.fault(150) {
@@ -320,6 +328,26 @@ impl<P: Player> World<P> {
             let fences = |end: &str| format!("/sim/fence/{node}{end}").into_bytes();
             self.store.end_leases_of(&fences("/"), &fences("0"));
         }
+    }
+
+    /// A node is told to give its fence back, with what waits for its receipt, and started anew once it has.
+    fn ends(&mut self, process: usize) {
+        self.counts.faults += 1;
+        self.submit(process);
+        self.processes[process].node.leave();
+        self.submit(process);
+        self.look(process, 0);
+    }
+
+    /// What has left has no fence, but for one whose answer was lost, and its entries count no more.
+    fn has_ended(&mut self, process: usize) {
+        let it = &self.processes[process];
+        let (incarnation, waits) = (it.incarnation, !it.waiting.is_empty());
+        let fences = self.store.range(b"/sim/fence/", b"/sim/fence0", self.store.revision);
+        if waits || fences.iter().any(|pair| Some(pair.created) == incarnation) {
+            self.breaks("a node has left and has a fence, or a caller who waits");
+        }
+        self.restart(process);
     }
 
     fn restart(&mut self, process: usize) {
@@ -604,6 +632,10 @@ impl<P: Player> World<P> {
         let before = reached.map_or(0, |note| note.place);
         self.look(process, before);
         let registered = self.processes[process].node.status().and_then(|status| status.incarnation);
+        self.processes[process].incarnation = registered.or(self.processes[process].incarnation);
+        if self.processes[process].node.has_left() {
+            return self.has_ended(process);
+        }
         if registered.is_some() && registered != incarnation && self.aimed(NEW) {
             self.leave(process);
         }
