@@ -35,7 +35,9 @@ class Faults:
         self.random = random.Random(seed)
         self.hosts = hosts_for([f"{kind}{it}" for kind in "mn" for it in range(3)])
         self.faults = FAULTS + (CUTS if self.hosts.can_cut else ())
-        self.members = [f"{self.hosts.named(f'm{it}')}:{BASE + 10 * it}" for it in range(3)]
+        # (the last one is reached by its address)
+        addresses = [self.hosts.address(f"m{it}") for it in range(3)]
+        self.members = [f"{self.hosts.named(f'm{it}') if it < 2 else addresses[it]}:{BASE + 10 * it}" for it in range(3)]
         self.listen = [f"https://{self.hosts.address(f'm{it}')}:{BASE + 10 * it}" for it in range(3)]
         self.peers = [f"http://{self.hosts.address(f'm{it}')}:{BASE + 10 * it + 1}" for it in range(3)]
         self.starts = [0] * 3
@@ -43,7 +45,7 @@ class Faults:
         shutil.rmtree(folder, ignore_errors=True)
         os.makedirs(folder)
         self.tls = f"{folder}/tls"
-        certify(self.tls, [f"m{it}" for it in range(3)], ["root", "operator", "check", "evil", "n0", "n1", "n2"])
+        certify(self.tls, [f"m{it}" for it in range(3)], ["root", "operator", "check", "evil", "n0", "n1", "n2"], addresses)
         self.liar = Liar(self, self.random.randrange(1 << 32))
 
     def log(self, name):

@@ -72,6 +72,8 @@ def lay(room, prefix):
     packages.lay_programs(room, prefix, sources.commit()[2])
     packages.lay_loaded(room)
     packages.lay_library(room, prefix)
+    if os.path.isfile(packages.CLUSTER):
+        packages.lay_cluster(room, prefix, sources.commit()[2])
     room.put(LISTED, "".join(f"{it}\n" for it in [*room.laid, LISTED]))
 
 

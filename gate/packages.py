@@ -15,6 +15,8 @@ from gate import manuals, sources, versions
 
 PROGRAMS = {"histar": "crates/histar/out/histar", "histar-audit": "crates/histar_audit/out/histar_audit"}
 CONFINE, LIBRARY, OUT = "out/confine", "out/lib/libhistar.a", "out/packages"
+# It is packed where it is built, which takes crates of Debian.
+CLUSTER, UNIT = "out/histar-cluster", "histar-cluster@.service"
 USAGE, NO_COMMAND, NO_ROOM, NOT_BUILT, STOPPED = 2, 69, 73, 78, 130
 HEADERS = ("include/histar.h", "include/histar_debug.h")
 SONAME = "libhistar.so.0"
@@ -23,9 +25,10 @@ ABOUT = {
     "koalaingot": ("proved label kernel: programs and a sandbox", "libc6 (>= 2.36)"),
     "libhistar0": ("proved label kernel, as a library that programs load", "libc6 (>= 2.36)"),
     "libhistar-dev": ("proved label kernel for C, C++ and Rust programs", "libc6-dev (>= 2.36), libhistar0 (= {version}-1)"),
+    "histar-cluster": ("proved label kernel on many machines: a node", "libc6 (>= 2.36), libgcc-s1 (>= 4.2), libssl3 (>= 3.0.0)"),
 }
-SUGGESTED = {"koalaingot": ("Suggests: rlwrap",)}
-SECTIONS = {"koalaingot": "utils", "libhistar0": "libs", "libhistar-dev": "libdevel"}
+SUGGESTED = {"koalaingot": ("Suggests: rlwrap",), "histar-cluster": ("Suggests: etcd-server, etcd-client",)}
+SECTIONS = {"koalaingot": "utils", "libhistar0": "libs", "libhistar-dev": "libdevel", "histar-cluster": "admin"}
 COPYRIGHT = """Format: https://www.debian.org/doc/packaging-manuals/copyright-format/1.0/
 Upstream-Name: koalaingot
 
@@ -150,14 +153,19 @@ def lay_about(room, name):
         room.zip(f"{folder}/changelog", it.read())
 
 
+def lay_manual(room, prefix, day, name, file):
+    """The man page of a program, and what completes its words."""
+    found = manuals.helps(name, os.path.abspath(file))
+    room.zip(f"share/man/man1/{name}.1", manuals.manual(name, versions.read(), day, found, f"{prefix}/share/doc/koalaingot"))
+    room.put(f"share/bash-completion/completions/{name}", manuals.bash(name, found))
+    room.put(f"share/zsh/vendor-completions/_{name}", manuals.zsh(name, found))
+    room.put(f"share/fish/vendor_completions.d/{name}.fish", manuals.fish(name, found))
+
+
 def lay_programs(room, prefix, day):
     for name, file in {**PROGRAMS, "confine": CONFINE}.items():
         room.program(f"bin/{name}" if name == "confine" else f"libexec/koalaingot/{name}", file)
-        found = manuals.helps(name, os.path.abspath(file))
-        room.zip(f"share/man/man1/{name}.1", manuals.manual(name, versions.read(), day, found, f"{prefix}/share/doc/koalaingot"))
-        room.put(f"share/bash-completion/completions/{name}", manuals.bash(name, found))
-        room.put(f"share/zsh/vendor-completions/_{name}", manuals.zsh(name, found))
-        room.put(f"share/fish/vendor_completions.d/{name}.fish", manuals.fish(name, found))
+        lay_manual(room, prefix, day, name, file)
     for name in PROGRAMS:
         room.put(f"bin/{name}", starter(name), 0o755)
     for it in ("answer.sh", "wrap.awk"):
@@ -203,6 +211,15 @@ def lay_library(room, prefix):
         if file.startswith("bindings/rust/histar/"):
             room.copy(f"share/histar/rust/{file.removeprefix('bindings/rust/')}", file)
     lay_about(room, "libhistar-dev")
+
+
+def lay_cluster(room, prefix, day):
+    """The node of a cluster, with its unit."""
+    room.program("bin/histar-cluster", CLUSTER)
+    lay_manual(room, prefix, day, "histar-cluster", CLUSTER)
+    with open(f"bindings/rust/systemd/{UNIT}", encoding="utf-8") as it:
+        room.put(f"lib/systemd/system/{UNIT}", it.read().replace("/usr/bin/", f"{prefix}/bin/"))
+    lay_about(room, "histar-cluster")
 
 
 def set_times(top, seconds):
@@ -296,6 +313,8 @@ def pack():
         made.append(deb("koalaingot", lambda it: lay_programs(it, "/usr", day), room, seconds))
         made.append(deb("libhistar0", lay_loaded, room, seconds))
         made.append(deb("libhistar-dev", lambda it: lay_library(it, "/usr"), room, seconds))
+        if os.path.isfile(CLUSTER):
+            made.append(deb("histar-cluster", lambda it: lay_cluster(it, "/usr", day), room, seconds))
         shutil.rmtree(OUT, ignore_errors=True)
         os.makedirs(OUT)
         for it in made:

@@ -15,7 +15,7 @@ use std::time::Duration;
 const COMES_BACK: Duration = Duration::from_secs(3);
 
 /// Writes to standard output.
-pub fn write(bytes: &[u8]) -> Result<(), Refused> {
+fn write(bytes: &[u8]) -> Result<(), Refused> {
     let mut out = std::io::stdout().lock();
     Ok(out.write_all(bytes).and_then(|()| out.flush())?)
 }
