@@ -257,8 +257,10 @@ class Operator:
         """A snapshot of etcd is restored to another one, and all nodes are started anew."""
         self.caller.kill()
         self.caller.wait()
-        ended = self.typed("etcdctl snapshot save files.db && etcdctl put /files/later x && " + f"etcdctl snapshot restore files.db --name m --data-dir again --initial-cluster m=http://127.0.0.1:{PORT + 1} --initial-cluster-token again --initial-advertise-peer-urls http://127.0.0.1:{PORT + 1}")
+        self.until(lambda: not self.fences("west"))
+        time.sleep(3)  # (its incarnation is closed)
         before = self.entries(0)
+        ended = self.typed("etcdctl snapshot save files.db && etcdctl put /files/later x && " + f"etcdctl snapshot restore files.db --name m --data-dir again --initial-cluster m=http://127.0.0.1:{PORT + 1} --initial-cluster-token again --initial-advertise-peer-urls http://127.0.0.1:{PORT + 1}")
         self.etcd.kill()
         self.etcd.wait()
         self.data = "again"
