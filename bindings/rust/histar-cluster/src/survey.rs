@@ -149,7 +149,8 @@ impl fmt::Display for Survey {
         {
             writeln!(f, "node {node} has no fence, {entries} of its entries in the log")?;
         }
-        let checkpoint = self.checkpoints.iter().max().map_or("no checkpoint".into(), |it| format!("a checkpoint after {it}"));
+        let checkpoint =
+            self.checkpoints.iter().max().map_or("no checkpoint".into(), |it| format!("a checkpoint after {it}"));
         let entries: u64 = self.entries.values().sum();
         writeln!(f, "log of {entries} entries, {checkpoint}, begun with rules {rules}")?;
         match (&self.disputed, &self.agreed) {

@@ -11,7 +11,8 @@ use histar::{label, Call, Entry, Kernel, Level, Limits, Object, Reply};
 use histar_cluster::engine::{Pair, Request};
 use histar_cluster::memory::Memory;
 use histar_cluster::{
-    audit, beginning_from, export, limits, range, retired, Digest, Fault, Item, Machine, Name, Options, Receipt, Running, Told, Unexported, Unrestored, Written,
+    audit, beginning_from, export, limits, range, retired, Digest, Fault, Item, Machine, Name, Options, Receipt,
+    Running, Told, Unexported, Unrestored, Written,
 };
 use player::{Player, Real};
 use std::time::{Duration, Instant};
@@ -298,11 +299,14 @@ fn a_cluster_begins_at_the_state_of_another_one_with_more_pages() {
     let (_, _, before) = state(&north);
     let bytes = export(&name("c"), &all(&store)).expect("a state");
     let other = Memory::new();
-    other.store().transact(&beginning_from(&begins("north", 100), &bytes).expect("a beginning").map(|(key, value)| (key, Some(value))));
+    other.store().transact(
+        &beginning_from(&begins("north", 100), &bytes).expect("a beginning").map(|(key, value)| (key, Some(value))),
+    );
     let open = |node: &str| Running::<Kernel>::open(other.clone(), begins(node, 100));
     let (first, second) = (open("north"), open("south"));
     first.latest().expect("a note");
-    let grown = before.replace("limits 64 ", "limits 100 ").replace("object 1 container 64 ", "object 1 container 100 ");
+    let grown =
+        before.replace("limits 64 ", "limits 100 ").replace("object 1 container 64 ", "object 1 container 100 ");
     assert_eq!(first.read(|kernel| kernel.checkpoint()).expect("a machine").expect("a text"), grown);
     // (it goes on, also past its own checkpoints, and its threads are whose they were)
     (0..2 * INTERVAL).for_each(|_| deeds.go_on(&first));
@@ -342,7 +346,11 @@ fn what_a_retired_node_agrees_on_stays_where_another_needs_it() {
     let agreements = || keys(&store, "log/a");
     let number = |key: &[u8]| key.rsplit(|it| *it == b'/').next().map(<[u8]>::to_vec);
     let both = |found: &[Pair]| {
-        found.iter().map(|it| number(&it.key)).filter(|it| found.iter().filter(|other| number(&other.key) == *it).count() == 2).max()
+        found
+            .iter()
+            .map(|it| number(&it.key))
+            .filter(|it| found.iter().filter(|other| number(&other.key) == *it).count() == 2)
+            .max()
     };
     let found = until(|| Some(agreements()).filter(|found| both(found).is_some()));
     let goes = retired(&name("c"), &name("south"), &found);

@@ -463,7 +463,8 @@ fn a_node_that_leaves_gives_its_fence_back() {
     let fences = |store: &Memory| store.store().range(b"/c/fence/north/", b"/c/fence/north0", u64::MAX).len();
     assert_eq!(fences(&store), 1);
     let closing = format!("/c/log/c/north/{}", spelled(north.status().and_then(|it| it.incarnation).expect("one")));
-    let waiting: Vec<_> = (2..20).map(|number| north.submit(&[call(2, number, 0)]).expect("a node that runs")).collect();
+    let waiting: Vec<_> =
+        (2..20).map(|number| north.submit(&[call(2, number, 0)]).expect("a node that runs")).collect();
     assert_eq!(north.within(Duration::from_secs(60)).leave(), Ok(()));
     assert_eq!(fences(&store), 0);
     assert_eq!(store.store().range(closing.as_bytes(), &[closing.as_bytes(), &[0]].concat(), u64::MAX).len(), 1);

@@ -297,12 +297,8 @@ impl Client {
     /// A page, of as many keys as have few enough bytes.
     pub async fn page(&self, from: Vec<u8>, to: Vec<u8>, at: u64) -> Told {
         let _turn = self.pages.turn.lock().await;
-        let mut question = RangeRequest {
-            key: from.into(),
-            range_end: to.into(),
-            revision: at as i64,
-            ..RangeRequest::default()
-        };
+        let mut question =
+            RangeRequest { key: from.into(), range_end: to.into(), revision: at as i64, ..RangeRequest::default() };
         loop {
             question.limit = self.pages.limit.load(Ordering::Relaxed);
             let most = if question.limit == 1 { usize::MAX } else { BYTES };

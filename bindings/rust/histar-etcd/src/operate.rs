@@ -103,7 +103,8 @@ impl Etcd {
         (from, to): &Range,
         of: impl Fn(RangeRequest) -> RangeRequest,
     ) -> Result<RangeResponse, Unanswered> {
-        let question = of(RangeRequest { key: from.clone().into(), range_end: to.clone().into(), ..Default::default() });
+        let question =
+            of(RangeRequest { key: from.clone().into(), range_end: to.clone().into(), ..Default::default() });
         self.tried(|client| {
             let question = question.clone();
             async move { client.ask("/etcdserverpb.KV/Range", &question).await }
@@ -114,10 +115,10 @@ impl Etcd {
     pub fn members(&self) -> Vec<(String, Result<Member, Unanswered>)> {
         let of = |address: &String| {
             let alone = Etcd { members: vec![address.clone()], ..self.clone() };
-            let told: Result<StatusResponse, Unanswered> = alone.tried(|client| async move {
-                client.ask("/etcdserverpb.Maintenance/Status", &StatusRequest {}).await
-            });
-            let member = |told: StatusResponse| Member { size: (told.size as u64, told.in_use as u64), alarms: told.alarms };
+            let told: Result<StatusResponse, Unanswered> = alone
+                .tried(|client| async move { client.ask("/etcdserverpb.Maintenance/Status", &StatusRequest {}).await });
+            let member =
+                |told: StatusResponse| Member { size: (told.size as u64, told.in_use as u64), alarms: told.alarms };
             (address.clone(), told.map(member))
         };
         self.members.iter().map(of).collect()

@@ -80,7 +80,9 @@ impl Tls {
     pub(crate) async fn connect(&self, host: &str, tcp: TcpStream) -> Result<SslStream<TcpStream>, String> {
         let told = |errors: openssl::error::ErrorStack| reason(&errors);
         let mut configuration = self.0.configure().map_err(told)?;
-        configuration.param_mut().set_hostflags(X509CheckFlags::NO_PARTIAL_WILDCARDS | X509CheckFlags::NEVER_CHECK_SUBJECT);
+        configuration
+            .param_mut()
+            .set_hostflags(X509CheckFlags::NO_PARTIAL_WILDCARDS | X509CheckFlags::NEVER_CHECK_SUBJECT);
         let ssl = configuration.into_ssl(host).map_err(told)?;
         let mut stream = SslStream::new(ssl, tcp).map_err(told)?;
         let done = Pin::new(&mut stream).connect().await;

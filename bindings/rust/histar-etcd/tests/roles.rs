@@ -111,9 +111,7 @@ fn with_roles(port: u16) -> Option<Tls> {
     std::thread::sleep(Duration::from_secs(2));
     assert!(it.shell(&documented(), "root"), "the commands of docs/CLUSTER.md");
     let operator = it.etcd("operator");
-    let begins = |node: &str| {
-        operator.put_new(&[beginning::<Model>(&options(node))])
-    };
+    let begins = |node: &str| operator.put_new(&[beginning::<Model>(&options(node))]);
     assert_eq!([begins("north"), begins("south")], [Ok(true), Ok(false)]);
     Some(it)
 }

@@ -70,6 +70,8 @@ struct Process<P: Player> {
     left: Option<u64>,
     /// The last incarnation that it had.
     incarnation: Option<u64>,
+    /// It was told to give its fence back.
+    is_ending: bool,
     inbox: Vec<(u64, u64, Answer)>,
     watch: Option<Watch>,
     /// What was submitted under a ticket.
@@ -227,6 +229,7 @@ impl<P: Player> World<P> {
             paused: 0,
             left: None,
             incarnation: None,
+            is_ending: false,
             inbox: Vec::new(),
             watch: None,
             waiting: BTreeMap::new(),
@@ -335,6 +338,7 @@ impl<P: Player> World<P> {
         self.counts.faults += 1;
         self.submit(process);
         self.processes[process].node.leave();
+        self.processes[process].is_ending = true;
         self.submit(process);
         self.look(process, 0);
     }
@@ -457,13 +461,13 @@ impl<P: Player> World<P> {
         let Some(liar) = &mut self.liar else { return };
         let (key, value) = liar.call::<P>(self.threads[EVIL][0], &played, self.store.revision);
         self.store.transact(&[(key.clone(), value)]);
-        let way = self.random.below(5);
+        let way = self.random.below(6);
         let stays = if way < 2 {
             // (what it answered no other has heard of, and it goes on)
             self.hurries(&[first]);
             self.says_all(&[first]);
             vec![first]
-        } else if way == 2 {
+        } else if way < 4 {
             self.settle(LONG);
             self.says_all(&going);
             Vec::new()
@@ -858,6 +862,9 @@ impl<P: Player> World<P> {
             return;
         }
         self.counts.stopped += self.processes.iter().filter(|it| it.node.fault().is_some()).count() as u64;
+        if self.processes.iter().any(|it| it.node.fault().is_none() && it.is_ending) {
+            self.breaks("a node keeps its fence that is to give it back");
+        }
         let waits = |it: &Process<P>| it.node.fault().is_none() && !it.waiting.is_empty();
         if self.processes.iter().any(waits) {
             self.breaks("a caller is told nothing");

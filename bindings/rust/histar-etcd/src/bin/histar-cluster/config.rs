@@ -94,7 +94,9 @@ fn is_member(text: &str) -> bool {
 fn members<'d, D: Deserializer<'d>>(from: D) -> Result<Vec<String>, D::Error> {
     let members = Vec::<String>::deserialize(from)?;
     match members.iter().find(|it| !is_member(it)) {
-        Some(wrong) => Err(D::Error::custom(format!("{wrong:?} is no member: HOST:PORT, an address of IPv6 in brackets"))),
+        Some(wrong) => {
+            Err(D::Error::custom(format!("{wrong:?} is no member: HOST:PORT, an address of IPv6 in brackets")))
+        }
         None if members.is_empty() => Err(D::Error::custom("a member at least is wanted: HOST:PORT")),
         None => Ok(members),
     }
@@ -133,7 +135,9 @@ fn wrong(file: PathBuf, text: &str, why: &toml::de::Error) -> ConfigFault {
     let told = told.split(" at line ").next().unwrap_or(&told);
     let field = [" field `", " for key `"].iter().find_map(|before| quoted(told, before));
     let field = field.filter(|_| !told.starts_with("missing field")).and_then(|it| it.rsplit('.').next());
-    let is_of = |line: &str| field.is_some_and(|it| line.trim_start().strip_prefix(it).is_some_and(|it| it.trim_start().starts_with('=')));
+    let is_of = |line: &str| {
+        field.is_some_and(|it| line.trim_start().strip_prefix(it).is_some_and(|it| it.trim_start().starts_with('=')))
+    };
     let lines = text.lines().collect::<Vec<_>>();
     let found = lines.iter().rposition(|line| is_of(line)).or(why.line_col().map(|(line, _)| line));
     let why = told.split(" for key `").next().unwrap_or(told);
@@ -167,7 +171,8 @@ impl Config {
         });
         let etcd =
             Etcd { members: fields.members, tls: files.as_ref().map(tls).transpose()?, lease: fields.lease as i64 };
-        let Fields { cluster, node, pages, interval, lanes, listen, .. } = Fields { tls: None, members: Vec::new(), ..fields };
+        let Fields { cluster, node, pages, interval, lanes, listen, .. } =
+            Fields { tls: None, members: Vec::new(), ..fields };
         Ok(Config { file: named(), cluster, node, etcd, pages, interval, lanes, listen })
     }
 

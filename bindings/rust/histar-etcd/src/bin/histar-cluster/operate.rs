@@ -77,13 +77,15 @@ fn pairs(config: &Config) -> Result<Vec<Pair>, Refused> {
 
 /// Writes the log as a dump.
 pub fn dump(config: &Config) -> Result<(), Refused> {
-    let text = audit(&config.cluster, &pairs(config)?).map_err(|fault| Refused::No(format!("{}: {fault}", config.cluster)))?;
+    let text =
+        audit(&config.cluster, &pairs(config)?).map_err(|fault| Refused::No(format!("{}: {fault}", config.cluster)))?;
     write(text.as_bytes())
 }
 
 /// Writes the state.
 pub fn exports(config: &Config) -> Result<(), Refused> {
-    let bytes = export(&config.cluster, &pairs(config)?).map_err(|fault| Refused::No(format!("{}: {fault}", config.cluster)))?;
+    let bytes = export(&config.cluster, &pairs(config)?)
+        .map_err(|fault| Refused::No(format!("{}: {fault}", config.cluster)))?;
     write(&bytes)
 }
 

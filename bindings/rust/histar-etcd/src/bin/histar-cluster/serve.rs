@@ -40,7 +40,9 @@ impl Served {
         }
         match self.node.status() {
             None => Ready::Not("the node looks what the cluster was begun with".into()),
-            Some(it) if !it.is_following => Ready::Not(format!("the node loads the log, {} entries so far", it.entries)),
+            Some(it) if !it.is_following => {
+                Ready::Not(format!("the node loads the log, {} entries so far", it.entries))
+            }
             Some(it) if it.incarnation.is_none() => Ready::Not("the node has no fence".into()),
             Some(_) => Ready::Is,
         }
