@@ -156,12 +156,12 @@ class Operator:
 
     def has_no_space(self):
         for at in range(40):
-            if self.typed(f"head -c {CLUTTER} /dev/zero | tr '\\0' {at % 10} | etcdctl put /clutter")[0] != 0:
+            if self.typed(f"head -c {CLUTTER} /dev/zero | tr '\\0' x | etcdctl put /clutter/{at}")[0] != 0:
                 break
         is_told = self.until(lambda: "space" in self.health(0)[1] + self.health(1)[1] + self.health(2)[1], 30)
         ended = self.told("status", "operator.toml")
         self.counts(is_told and ended[0] == 1 and "ALARM" in ended[1], "nodes and status tell that etcd has no space", (ended, self.health(0)))
-        ended = self.typed(self.block(2))
+        ended = self.typed(f"etcdctl del --prefix /clutter/\n{self.block(2)}")
         self.counts(ended[0] == 0, "gives etcd space, by the block of the page", ended)
         before = self.entries(0)
         is_well = all(self.is_ready(at) for at in range(3)) and self.until(lambda: self.entries(0) > before + 20, 30)
@@ -214,8 +214,10 @@ class Operator:
         self.counts(started.wait(timeout=20) == 0, "and ends when it is told to", started.returncode)
         for user, why in (("south", "permission denied"), ("nobody", "No such file")):
             self.write("wrong", configured("files", [f"127.0.0.1:{PORT}"], user, node="north", pages=1024, listen=f"127.0.0.1:{HEALTH + 6}"))
-            ended = self.typed("timeout -s TERM 6 $PROGRAMS/histar-cluster run wrong.toml")
-            self.counts(why in ended[1], f"another's certificate, or none, is told: {why}", ended)
+            self.typed("rm -f wrong.log; systemctl start histar-cluster@wrong")
+            is_told = self.until(lambda: why in text(f"{self.folder}/wrong.log"), 30)
+            self.counts(is_told, f"another's certificate, or none, is told: {why}", text(f"{self.folder}/wrong.log"))
+            self.typed("kill $(cat wrong.pid) 2> /dev/null || :")
         self.typed("cp -r tls other && cd other && openssl req -x509 -newkey rsa:2048 -nodes -keyout x.key -out ca.pem -subj /CN=x 2>/dev/null")
         self.write("other", configured("files", [f"127.0.0.1:{PORT}"], "north", pages=1024).replace("tls/", "other/"))
         ended = self.told("status", "other.toml")
@@ -265,17 +267,17 @@ class Operator:
         self.etcd.wait()
         self.data = "again"
         self.start_etcd()
-        is_told = self.until(lambda: "engine is another" in self.health(0)[1] or not self.health(0)[0], 30)
+        is_told = self.until(lambda: all("the engine is another one" in text(f"{self.folder}/{node}.log") for node in NODES[:2]), 60)
         self.counts(ended[0] == 0 and is_told, "a node that runs does not take a restored etcd for its own", (ended, self.health(0)))
         for node in NODES[:2]:
-            self.typed(f"kill $(cat {node}.pid) 2> /dev/null; sleep 1; systemctl start histar-cluster@{node}")
+            self.typed(f"kill $(cat {node}.pid) 2> /dev/null && sleep 1; systemctl start histar-cluster@{node}")
         is_well = all(self.is_ready(at) for at in range(2)) and self.until(lambda: self.entries(0) >= before, 20)
         self.counts(is_well, "nodes that are started anew go on at it", (self.health(0), before))
 
     def end(self):
         if self.caller:
             self.caller.kill()
-        for node in (*NODES, "again", "twin"):
+        for node in (*NODES, "again", "twin", "wrong"):
             self.typed(f"[ ! -f {node}.pid ] || kill -9 $(cat {node}.pid) 2> /dev/null || :")
         if self.etcd:
             self.etcd.kill()
