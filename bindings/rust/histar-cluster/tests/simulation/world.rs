@@ -68,7 +68,7 @@ struct Process<P: Player> {
     paused: u64,
     /// It is away until the others have gone on past this place.
     left: Option<u64>,
-    /// The last incarnation that it had.
+    /// The incarnation that it had when it was told to end.
     incarnation: Option<u64>,
     /// It was told to give its fence back.
     is_ending: bool,
@@ -337,19 +337,25 @@ impl<P: Player> World<P> {
     fn ends(&mut self, process: usize) {
         self.counts.faults += 1;
         self.submit(process);
-        self.processes[process].node.leave();
-        self.processes[process].is_ending = true;
+        let it = &mut self.processes[process];
+        // (the fence of one that was ended by another ends with its lease)
+        it.incarnation = it.node.status().and_then(|status| status.incarnation);
+        it.is_ending = true;
+        it.node.leave();
         self.submit(process);
         self.look(process, 0);
     }
 
-    /// What has left has no fence, but for one whose answer was lost, and its entries count no more.
+    /// What has left has no fence of the incarnation that it had, and nobody waits.
     fn has_ended(&mut self, process: usize) {
         let it = &self.processes[process];
         let (incarnation, waits) = (it.incarnation, !it.waiting.is_empty());
         let fences = self.store.range(b"/sim/fence/", b"/sim/fence0", self.store.revision);
-        if waits || fences.iter().any(|pair| Some(pair.created) == incarnation) {
-            self.breaks("a node has left and has a fence, or a caller who waits");
+        if fences.iter().any(|pair| Some(pair.created) == incarnation) {
+            self.breaks("a node has left and has a fence");
+        }
+        if waits {
+            self.breaks("a node has left and a caller waits");
         }
         self.restart(process);
     }
@@ -636,9 +642,9 @@ impl<P: Player> World<P> {
         let before = reached.map_or(0, |note| note.place);
         self.look(process, before);
         let registered = self.processes[process].node.status().and_then(|status| status.incarnation);
-        self.processes[process].incarnation = registered.or(self.processes[process].incarnation);
-        if self.processes[process].node.has_left() {
-            return self.has_ended(process);
+        let node = &self.processes[process].node;
+        if node.has_left() && node.fault().is_none() {
+            return self.has_ended(process); // (who waits at a node that has stopped is told nothing)
         }
         if registered.is_some() && registered != incarnation && self.aimed(NEW) {
             self.leave(process);
