@@ -216,7 +216,9 @@ class Faults:
             done, told = self.operator(what)
             with open(f"{self.folder}/{what}", "w", encoding="utf-8") as it:
                 it.write(told)
-            status = status or done
+            # (a member that was just replaced may not answer yet, which status ends with 1 for)
+            is_well = "NODES DIFFER" not in told if what == "status" and "\nMEMBER " in told else done == 0
+            status = status or not is_well
         return status == 0, f"{said.strip()}, by {self.counts}"
 
 
