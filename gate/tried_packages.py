@@ -305,6 +305,8 @@ def try_all(report, tree="."):
     if lacking and "install" in lacking:
         report.say(f"left out: packages: {lacking}")
         return
+    if lacking:
+        report.counts(False, f"packages: what they have is built: {lacking}")
     first, second = None, None
     with contextlib.suppress(Fault):
         pack()
