@@ -1,12 +1,14 @@
 """The crates for many machines. The protocol is played against a simulated engine from seeds, and each wrong rule of
 bindings/rust/histar-cluster/wrong has to be caught by several; a wrong rule that doesn't compile is not caught. Over etcd, where its
-client's packages are: a member is killed and paused, roles hold a node to its keys, and faults are done to three members and nodes."""
+client's packages are: a member is killed and paused, roles hold a node to its keys, faults are done to three members and nodes, and what an
+operator types is typed."""
 import glob
 import os
 import re
 import shutil
 import subprocess
 
+from gate import cluster_operator
 from gate.cluster_faults import DROPPED, LOGS, Faults
 from gate.plays import ran, text
 
@@ -109,6 +111,9 @@ def try_engine(report, library, room, auditor):
     if auditor:
         are_clean = all(ran(auditor, f"{room}/faults/{it}") == (0, "clean\n") for it in LOGS)
         report.counts(are_clean, "./histar-audit finds clean the log of the faults, and what is left of it")
+
+
+    cluster_operator.try_all(report, f"{room}/operator", f"{room}/cluster-target/release", auditor)
 
 
 def try_all(report, library, room, auditor):

@@ -73,6 +73,8 @@ def lay(room, prefix):
     packages.lay_loaded(room)
     packages.lay_library(room, prefix)
     packages.lay_python(room)
+    if os.path.isfile(packages.CLUSTER):
+        packages.lay_cluster(room, prefix, sources.commit()[2])
     room.put(LISTED, "".join(f"{it}\n" for it in [*room.laid, LISTED]))
 
 

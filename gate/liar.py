@@ -14,14 +14,23 @@ openssl x509 -req -in {0}.csr -CA ca.pem -CAkey ca.key -CAcreateserial -out {0}.
 """
 
 
-def certify(folder, hosts, users):
+def certify(folder, hosts, users, addresses=("127.0.0.1",)):
     """An authority, a certificate for the members on these hosts, and one for each user."""
     os.makedirs(folder)
+    named = [*(f"DNS:{host}" for host in ["localhost", *hosts]), *(f"IP:{it}" for it in addresses)]
     with open(f"{folder}/names", "w", encoding="utf-8") as it:
-        it.write("subjectAltName=" + ",".join(f"DNS:{host}" for host in ["localhost", *hosts]) + "\n")
+        it.write(f"subjectAltName={','.join(named)}\n")
     steps = ["openssl req -x509 -newkey rsa:2048 -nodes -keyout ca.key -out ca.pem -subj /CN=ca -days 2"]
     for step in steps + [CERTIFICATE.format(name) for name in ["member", *users]]:
         subprocess.run(["sh", "-c", step], cwd=folder, stdout=subprocess.DEVNULL, stderr=subprocess.DEVNULL, check=True)
+
+
+def configured(cluster, members, user, **fields):
+    """A configuration, beside whose file the folder tls stands."""
+    lines = [f'cluster = "{cluster}"', f"members = {json.dumps(members)}"]
+    lines += [f"{name} = {json.dumps(value)}" for name, value in fields.items()]
+    lines += ["[tls]", 'authority = "tls/ca.pem"', f'certificate = "tls/{user}.pem"', f'key = "tls/{user}.key"']
+    return "\n".join(lines) + "\n"
 
 
 def give_roles(faults, nodes):

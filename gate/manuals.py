@@ -9,6 +9,7 @@ DESCRIPTIONS = {
     "histar": "A script is calls of threads on one kernel, which decides by labels which thread may read and write what. A refused call changes nothing. What histar show shows is a dump, which histar run, confine, or a program over the library writes of its calls.",
     "histar-audit": "A dump is what histar run, confine, or a program over the library writes of its calls. It is clean where each answer in it is that of the rules.",
     "confine": "What the program reads of a secret it can write to that secret's reports and nowhere else. It needs Linux 6.2 or later, and no privileges.",
+    "histar-cluster": "Each machine has a replica of one kernel, and the log of an etcd is their journal. CONFIG is a file in TOML, which names cluster, members, pages, and for run the node; --help shows all of it.",
 }
 
 # How each may end. The cases are those of docs/PROGRAMS.md and docs/CONFINE.md.
@@ -16,9 +17,11 @@ FAILED = {3: "a file can't be read or written", 4: "out of memory"}
 STATUSES = {
     "histar": {0: "done; a refused call is no failure", 1: "the script has a fault, check has found something, or what is to be shown needs a clean dump", 2: "wrong arguments, or no dump, no names or no call at the line to show", **FAILED},
     "histar-audit": {0: "the dump is clean", 1: "a line is false", 2: "the file is no dump, or wrong arguments", **FAILED},
+    "histar-cluster": {0: "done", 1: "refused, or the cluster is not well", 2: "wrong arguments", 66: "a file can't be read", 69: "etcd does not do it", 74: "nothing can be written", 78: "the configuration is wrong, or a port is in use"},
     "confine": {"N": "the program's own status, or 0 once a secret was read", 2: "wrong arguments", 69: "this machine lacks something; nothing was started", 70: "something failed"},
 }
 EXAMPLES = {
+    "histar-cluster": (("See how a cluster is", "histar-cluster status operator.toml"), ("Keep its state", "histar-cluster export operator.toml > files.state")),
     "histar": (("Play a script and keep what happened", "histar run {documents}/examples/first.histar --dump first.dump"), ("Ask the kernel call by call", "histar try"), ("See why the call of a line was refused", "histar show why first.dump 12"), ("Write a page that steps through a run", "histar show page first.dump --out first.html")),
     "histar-audit": (("Check each answer of a run", "histar-audit first.dump"), ("See what object 4 can have reached outside of category 1", "histar-audit first.dump --from 4 --category 1")),
     "confine": (("Search your documents by a program that can't send them on", "confine --secret Documents --report found -- sh -c 'grep -rl EICAR Documents > found'"),),

@@ -16,6 +16,8 @@ from gate import manuals, sources, versions
 
 PROGRAMS = {"histar": "crates/histar/out/histar", "histar-audit": "crates/histar_audit/out/histar_audit"}
 CONFINE, LIBRARY, OUT = "out/confine", "out/lib/libhistar.a", "out/packages"
+# It is packed where it is built, which takes crates of Debian.
+CLUSTER, UNIT = "out/histar-cluster", "histar-cluster@.service"
 USAGE, NO_COMMAND, NO_ROOM, NOT_BUILT, STOPPED = 2, 69, 73, 78, 130
 HEADERS = ("include/histar.h", "include/histar_debug.h", "include/histar.cffi.h")
 PYTHON = "bindings/python/src/histar"
@@ -26,10 +28,11 @@ ABOUT = {
     "libhistar0": ("proved label kernel, as a library that programs load", "libc6 (>= 2.36)"),
     "libhistar-dev": ("proved label kernel for C, C++ and Rust programs", "libc6-dev (>= 2.36), libhistar0 (= {version}-1)"),
     "python3-histar": ("proved label kernel for Python programs", "python3 (>= 3.9), libhistar0 (= {version}-1)"),
+    "histar-cluster": ("proved label kernel on many machines: a node", "libc6 (>= 2.36), libgcc-s1 (>= 4.2), libssl3 (>= 3.0.0)"),
 }
 ARCHITECTURES = {"python3-histar": "all"}
-SUGGESTED = {"koalaingot": ("Suggests: rlwrap",)}
-SECTIONS = {"koalaingot": "utils", "libhistar0": "libs", "libhistar-dev": "libdevel", "python3-histar": "python"}
+SUGGESTED = {"koalaingot": ("Suggests: rlwrap",), "histar-cluster": ("Suggests: etcd-server, etcd-client",)}
+SECTIONS = {"koalaingot": "utils", "libhistar0": "libs", "libhistar-dev": "libdevel", "python3-histar": "python", "histar-cluster": "admin"}
 # What compiles the package's files where it is installed, and takes that away again, as for each package of Python's.
 SCRIPTS = {
     "python3-histar": {
@@ -162,14 +165,19 @@ def lay_about(room, name):
         room.zip(f"{folder}/changelog", it.read())
 
 
+def lay_manual(room, prefix, day, name, file):
+    """The man page of a program, and what completes its words."""
+    found = manuals.helps(name, os.path.abspath(file))
+    room.zip(f"share/man/man1/{name}.1", manuals.manual(name, versions.read(), day, found, f"{prefix}/share/doc/koalaingot"))
+    room.put(f"share/bash-completion/completions/{name}", manuals.bash(name, found))
+    room.put(f"share/zsh/vendor-completions/_{name}", manuals.zsh(name, found))
+    room.put(f"share/fish/vendor_completions.d/{name}.fish", manuals.fish(name, found))
+
+
 def lay_programs(room, prefix, day):
     for name, file in {**PROGRAMS, "confine": CONFINE}.items():
         room.program(f"bin/{name}" if name == "confine" else f"libexec/koalaingot/{name}", file)
-        found = manuals.helps(name, os.path.abspath(file))
-        room.zip(f"share/man/man1/{name}.1", manuals.manual(name, versions.read(), day, found, f"{prefix}/share/doc/koalaingot"))
-        room.put(f"share/bash-completion/completions/{name}", manuals.bash(name, found))
-        room.put(f"share/zsh/vendor-completions/_{name}", manuals.zsh(name, found))
-        room.put(f"share/fish/vendor_completions.d/{name}.fish", manuals.fish(name, found))
+        lay_manual(room, prefix, day, name, file)
     for name in PROGRAMS:
         room.put(f"bin/{name}", starter(name), 0o755)
     for it in ("answer.sh", "wrap.awk"):
@@ -260,6 +268,15 @@ def make_wheel(folder, seconds):
         name, = os.listdir(f"{top}/made")
         shutil.copyfile(f"{top}/made/{name}", f"{folder}/{name}")
     return name
+
+
+def lay_cluster(room, prefix, day):
+    """The node of a cluster, with its unit."""
+    room.program("bin/histar-cluster", CLUSTER)
+    lay_manual(room, prefix, day, "histar-cluster", CLUSTER)
+    with open(f"bindings/rust/systemd/{UNIT}", encoding="utf-8") as it:
+        room.put(f"lib/systemd/system/{UNIT}", it.read().replace("/usr/bin/", f"{prefix}/bin/"))
+    lay_about(room, "histar-cluster")
 
 
 def set_times(top, seconds):
@@ -357,6 +374,8 @@ def pack():
         made.append(deb("libhistar-dev", lambda it: lay_library(it, "/usr"), room, seconds))
         made.append(make_wheel(room, seconds))
         made.append(deb("python3-histar", lambda it: lay_python_package(it, f"{room}/{made[-1]}"), room, seconds))
+        if os.path.isfile(CLUSTER):
+            made.append(deb("histar-cluster", lambda it: lay_cluster(it, "/usr", day), room, seconds))
         shutil.rmtree(OUT, ignore_errors=True)
         os.makedirs(OUT)
         for it in made:

@@ -15,7 +15,7 @@ import time
 import zipfile
 
 from gate import manuals, roots, starts
-from gate.packages import CONFINE, LIBRARY, NO_ROOM, NOT_BUILT, OUT, PROGRAMS, SONAME, TRIPLE, Fault, pack
+from gate.packages import CLUSTER, CONFINE, LIBRARY, NO_ROOM, NOT_BUILT, OUT, PROGRAMS, SONAME, TRIPLE, Fault, pack
 from gate.plays import text
 from gate.report import Report
 
@@ -58,7 +58,7 @@ def try_programs(report, top):
     for words, last in HELPS:
         shown = starts.shown_at_terminal([f"{top}/usr/bin/{words[0]}", *words[1:]], columns=40, env=env)
         starts.is_wrapped(report, f"packages: {' '.join(words)}", shown, last)
-    for name in manuals.STATUSES:
+    for name in manuals.STATUSES if os.path.isfile(CLUSTER) else [it for it in manuals.STATUSES if it != "histar-cluster"]:
         for width in ("40", "80", "120"):
             ended = ran("man", "--warnings", "-l", f"{top}/usr/share/man/man1/{name}.1.gz", env={**env, "LANG": "C.UTF-8", "MANWIDTH": width})
             is_well = ended[0] == 0 and "OPTIONS" in ended[1] and "warning" not in ended[1]
@@ -143,7 +143,10 @@ def hand_over(tree):
         os.makedirs(os.path.dirname(LIBRARY), exist_ok=True)
         shutil.copyfile(f"{tree}/{LIBRARY}", LIBRARY)
     status, said = ran("bindings/confine/build.sh")
-    return said.strip() if status else None
+    if status:
+        return said.strip()
+    status, lacking = ran("bindings/rust/build.sh")
+    return lacking.strip() if status and "install" not in lacking else None
 
 
 # At how many moments ./install is stopped.
@@ -279,7 +282,7 @@ def built_again(room, made):
     """A tree with what is built here: a clone, or what a tarball holds."""
     subprocess.run(made, check=True, cwd=room)
     tree = next(f"{room}/{it}" for it in os.listdir(room) if os.path.isdir(f"{room}/{it}"))
-    for file in (*PROGRAMS.values(), LIBRARY, CONFINE):
+    for file in (*PROGRAMS.values(), LIBRARY, CONFINE, *(it for it in (CLUSTER,) if os.path.isfile(it))):
         os.makedirs(os.path.dirname(f"{tree}/{file}"), exist_ok=True)
         shutil.copy2(file, f"{tree}/{file}")
     return tree
@@ -315,13 +318,15 @@ def try_all(report, tree="."):
     if lacking and "install" in lacking:
         report.say(f"left out: packages: {lacking}")
         return
+    if lacking:
+        report.counts(False, f"packages: what they have is built: {lacking}")
     first, second = None, None
     with contextlib.suppress(Fault):
         pack()
         first = sums()
         pack()
         second = sums()
-    report.counts(first is not None and first == second and len(first) == 6, f"packages: built twice, the same bytes: {', '.join(first or ())}")
+    report.counts(first is not None and first == second and len(first) == 6 + os.path.isfile(CLUSTER), f"packages: built twice, the same bytes: {', '.join(first or ())}")
     if first is None:
         return
     try_sizes(report, first)

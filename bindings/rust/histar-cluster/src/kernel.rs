@@ -39,6 +39,17 @@ fn head_of(limits: &Limits) -> String {
     format!("histar-dump 2\nlimits {pages} {} {next_id} {next_category}\n", number_of(*device))
 }
 
+/// The text of a kernel with other limits. The root's quota is all pages. None where it is no such text.
+pub(crate) fn with_limits(text: &[u8], limits: &[u8]) -> Option<Vec<u8>> {
+    let (text, limits) = (std::str::from_utf8(text).ok()?, limits_of(limits)?);
+    let (first, rest) = text.split_once('\n')?;
+    let (second, rest) = rest.split_once('\n')?;
+    let (before, root) = rest.split_once("\nobject 1 container ")?;
+    let (_, after) = root.split_once(' ')?;
+    let is_one = first == "histar-dump 2" && second.starts_with("limits ");
+    is_one.then(|| format!("{}{before}\nobject 1 container {} {after}", head_of(&limits), limits.pages).into_bytes())
+}
+
 /// Why no kernel was opened at a text.
 fn unopened(refused: Refused) -> Unrestored {
     match refused.reason {

@@ -9,6 +9,7 @@
 //! | `log/c/NODE/INCARNATION` | nothing | any node: the incarnation is closed |
 //! | `log/e/NODE/INCARNATION.LANE/NUMBER` | an entry | its node |
 //! | `log/s/NODE/` | the point up to which the node has played | each node |
+//! | `start` | the state of another cluster, at which this one begins | an operator, with `boot` |
 //! | `state/NODE/ENTRIES` | a checkpoint | the node of the last of these entries |
 //!
 //! A node puts under its own name alone, so a role of the engine can hold it to that. Under `boot` it puts nothing once the cluster has begun.
@@ -118,6 +119,10 @@ impl Keys {
         self.key(format_args!("boot"))
     }
 
+    pub fn start(&self) -> Key {
+        self.key(format_args!("start"))
+    }
+
     pub fn void(&self, place: u64) -> Key {
         self.key(format_args!("boot/{}", spelled(place)))
     }
@@ -145,6 +150,23 @@ impl Keys {
 
     pub fn agreement(&self, node: &Name, entries: u64) -> Key {
         self.key(format_args!("log/a/{node}/{}", spelled(entries)))
+    }
+
+    pub fn all_seen(&self) -> Key {
+        self.key(format_args!("log/s/"))
+    }
+
+    pub fn entries_of(&self, node: &Name) -> Key {
+        self.key(format_args!("log/e/{node}/"))
+    }
+
+    pub fn states(&self) -> Key {
+        self.key(format_args!("state/"))
+    }
+
+    /// The beginnings of what keeps a node in the cluster: its fences, and how far it has played.
+    pub fn standing(&self, node: &Name) -> [Key; 2] {
+        ["fence", "log/s"].map(|kind| self.key(format_args!("{kind}/{node}/")))
     }
 
     pub fn seen(&self, node: &Name) -> Key {

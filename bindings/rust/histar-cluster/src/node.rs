@@ -44,7 +44,7 @@ impl Options {
     /// What a cluster is begun with by a node that is started so.
     pub(crate) fn boot<M: Machine>(&self) -> Boot {
         let (interval, limits) = (self.interval.max(1), self.limits.clone());
-        Boot { rules: M::RULES, interval, limits, first: self.node.clone() }
+        Boot { rules: M::RULES, interval, limits, first: self.node.clone(), from: None }
     }
 }
 
@@ -65,6 +65,7 @@ enum Purpose {
     Lease,
     Fence {
         lease: u64,
+        fence: Key,
     },
     Entry {
         incarnation: u64,
@@ -77,6 +78,8 @@ enum Purpose {
     /// It is asked once.
     Once,
     Drop,
+    /// A fence is given back.
+    Leave,
 }
 
 struct Asked {
@@ -94,6 +97,19 @@ enum Phase<M> {
     Stopped(Fault),
 }
 
+/// Whether a node gives its fence back.
+#[derive(Clone, Copy, PartialEq, Eq)]
+enum Leaving {
+    No,
+    /// Once none of its entries is on its way.
+    Waits,
+    /// Once its incarnation is closed.
+    Closes,
+    /// The fence is on its way.
+    GivesBack,
+    HasLeft,
+}
+
 /// What an operator wants to know of a node.
 #[derive(Clone, PartialEq, Eq, Debug)]
 pub struct Status {
@@ -107,6 +123,12 @@ pub struct Status {
     pub digest: Digest,
     /// The incarnation, where the node may write.
     pub incarnation: Option<u64>,
+    /// Whether it follows the log, and does not load what it lacks.
+    pub is_following: bool,
+    /// The greatest number of entries after which the node and another one agree.
+    pub agreed: Option<u64>,
+    /// How many fences of the node's name stand beside its own: another process has its name, or had and is gone for less than its lease.
+    pub namesakes: usize,
     /// How many submissions wait for their receipt.
     pub waiting: usize,
     /// After so many entries the node lacked memory for a checkpoint. It keeps its own keys up to the next one for which it does not.
@@ -135,6 +157,8 @@ pub struct Node<M: Machine> {
     dropped: u64,
     drops: VecDeque<Request>,
     forgotten: u64,
+    namesakes: usize,
+    leaving: Leaving,
     writer: Writer,
     queue: VecDeque<Queued>,
     trouble: Option<String>,
@@ -169,6 +193,8 @@ impl<M: Machine> Node<M> {
             dropped: 0,
             drops: VecDeque::new(),
             forgotten: 0,
+            namesakes: 0,
+            leaving: Leaving::No,
             writer: Writer::None,
             queue: VecDeque::new(),
             trouble: None,
@@ -227,6 +253,9 @@ impl<M: Machine> Node<M> {
             rules: state.rules(),
             digest: point.digest,
             incarnation,
+            is_following: self.is_following(),
+            agreed: self.agreed(),
+            namesakes: self.namesakes,
             waiting: self.queue.len() + self.writer.waiting(),
             unwritten: self.unwritten,
             trouble: self.trouble(),
@@ -326,9 +355,12 @@ impl<M: Machine> Node<M> {
             (Purpose::Pages(pages), _) => self.forgotten(&pages),
             (Purpose::Watch, answer) => self.watched(number, asked.request, answer),
             (Purpose::Lease, Answer::Lease(lease)) => self.leased(lease),
-            (Purpose::Fence { lease }, Answer::Put { revision, is_done }) => self.fenced(lease, revision, is_done),
+            (Purpose::Fence { lease, fence }, Answer::Put { revision, is_done }) => {
+                self.fenced(lease, fence, revision, is_done);
+            }
             (Purpose::Entry { incarnation, lane, number }, _) => self.is_put(incarnation, lane, number),
             (Purpose::Drop, _) => self.drop_next(),
+            (Purpose::Leave, _) => self.leaving = Leaving::HasLeft,
             _ => {}
         }
     }
@@ -361,6 +393,7 @@ impl<M: Machine> Node<M> {
                 _ => {}
             }
         }
+        self.leave_on();
         if self.is_following() {
             self.watch_unless_watching();
             self.register_unless_registered();

@@ -2,15 +2,18 @@
 use crate::engine::{Answer, Answers, Engine, Request, TakesAnswers};
 use crate::node::{Node, Options, Output, Status};
 use crate::receipt::{Fault, Note, Receipt, Told};
-use crate::waiting::{waiting, Teller, Waiting};
+use crate::waiting::{waiting, Teller, Unsettled, Waiting};
 use crate::{Item, Machine, Replica};
 use histar::trusted::{Record, Thread};
 use histar::{Call, Kernel, Refused, Reply};
 use std::collections::HashMap;
 use std::fmt;
+use std::future::Future;
+use std::pin::Pin;
 use std::sync::mpsc::{channel, RecvTimeoutError, Sender};
 use std::sync::{Arc, Condvar, Mutex, MutexGuard, PoisonError};
-use std::time::Duration;
+use std::task::{Context, Poll};
+use std::time::{Duration, Instant};
 
 /// Time passes for a node in steps of so much.
 const TICK: Duration = Duration::from_millis(40);
@@ -88,6 +91,8 @@ pub struct Running<M: Machine> {
     shared: Arc<Shared<M>>,
     // The thread in which time passes ends with the last of these.
     time: Sender<()>,
+    // A wait ends after so long.
+    patience: Duration,
 }
 
 /// A seat at a node for one thread that reads, by a machine of its own: it waits for no other reader, nor for what the node does. What it has
@@ -120,7 +125,24 @@ where
                 shared.with(|core| core.node.tick());
             }
         });
-        Running { shared, time }
+        Running { shared, time, patience: Duration::MAX }
+    }
+
+    /// The same node, each of whose waits ends after a time. What was submitted is played all the same.
+    ///
+    /// ```
+    /// # use histar_cluster::{memory::Memory, limits, Name, Options, Running, Uncalled, Unread};
+    /// # use std::time::Duration;
+    /// # let name = |text| Name::new(text).unwrap();
+    /// # let limits = limits(&histar::Limits::pages(64));
+    /// # let options = Options { cluster: name("c"), node: name("n"), limits, lanes: 1, interval: 1000, any: 1 };
+    /// let node: Running<histar::Kernel> = Running::open(Memory::new(), options);
+    /// let mut note = node.latest().unwrap();
+    /// note.place += 1000;
+    /// assert_eq!(node.within(Duration::from_millis(20)).reaches(note), Err(Unread::Late));
+    /// ```
+    pub fn within(&self, time: Duration) -> Running<M> {
+        Running { shared: self.shared.clone(), time: self.time.clone(), patience: time }
     }
 
     /// Submits up to 16 items, which are played together.
@@ -142,11 +164,12 @@ where
         })
     }
 
-    /// Reads of the machine, which has all that the node has played. A read that no thread of the cluster could make is the caller's fault.
+    /// Reads of the machine, which has all that the node has played, once it has booted. A read that no thread of the cluster could make is the
+    /// caller's fault.
     ///
     /// # Errors
-    /// Why the node has stopped.
-    pub fn read<T>(&self, read: impl FnOnce(M::View<'_>) -> T) -> Result<T, Fault> {
+    /// Why nothing was read.
+    pub fn read<T>(&self, read: impl FnOnce(M::View<'_>) -> T) -> Result<T, Unread> {
         if let Some(view) = self.shared.core().node.view() {
             return Ok(read(view));
         }
@@ -155,53 +178,65 @@ where
         Ok(read(view))
     }
 
-    /// A seat for a thread that reads.
+    /// A seat for a thread that reads, once the node has booted.
     ///
     /// # Errors
-    /// Why the node has stopped; [`Fault::NoMemory`] where there is none for another machine.
-    pub fn reader(&self) -> Result<Reader<M>, Fault> {
-        let node = Running { shared: self.shared.clone(), time: self.time.clone() };
+    /// Why there is none; [`Fault::NoMemory`] where there is none for another machine.
+    pub fn reader(&self) -> Result<Reader<M>, Unread> {
+        let node = self.within(self.patience);
         let replica = node.replica()?;
         Ok(Reader { node, replica })
     }
 
-    fn replica(&self) -> Result<Replica<M>, Fault> {
+    fn replica(&self) -> Result<Replica<M>, Unread> {
         let core = self.booted()?;
         let start = core.node.start().unwrap_or_else(|| unreachable!("the node has booted"));
         drop(core); // (what takes the longest, others need not wait for)
-        start?.open()
+        Ok(start?.open()?)
     }
 
     /// Waits until the node has a machine.
-    fn booted(&self) -> Result<MutexGuard<'_, Core<M>>, Fault> {
+    fn booted(&self) -> Result<MutexGuard<'_, Core<M>>, Unread> {
         self.until(|node| node.view().is_some())
     }
 
-    fn until(&self, holds: impl Fn(&mut Node<M>) -> bool) -> Result<MutexGuard<'_, Core<M>>, Fault> {
+    fn until(&self, holds: impl Fn(&mut Node<M>) -> bool) -> Result<MutexGuard<'_, Core<M>>, Unread> {
+        let began = Instant::now();
         let mut core = self.shared.core();
         loop {
             if let Some(fault) = core.node.fault() {
-                return Err(fault.clone());
+                return Err(Unread::Stopped(fault.clone()));
             }
             if holds(&mut core.node) {
                 return Ok(core);
             }
+            let left = self.patience.checked_sub(began.elapsed()).ok_or(Unread::Late)?;
             core.watchers += 1;
-            core = self.shared.goes_on.wait(core).unwrap_or_else(PoisonError::into_inner);
+            core = self.shared.goes_on.wait_timeout(core, left).unwrap_or_else(PoisonError::into_inner).0;
             core.watchers -= 1;
         }
+    }
+
+    /// Gives the node's fence back: its incarnation is closed, once what is on its way is played or never will be, so no other node has to wait for its
+    /// lease. What is submitted from here on is never made.
+    ///
+    /// # Errors
+    /// That this was not done in the time of [`within`](Running::within), or why the node has stopped.
+    pub fn leave(&self) -> Result<(), Unread> {
+        self.shared.with(|core| core.node.leave());
+        self.until(|node| node.has_left()).map(drop)
     }
 
     /// Waits until the node has played all up to a note: reads from here on see it.
     ///
     /// # Errors
-    /// Why the node has stopped; [`Fault::OtherEngine`] where the note is of another engine.
-    pub fn reaches(&self, note: Note) -> Result<(), Fault> {
+    /// Why it has not.
+    pub fn reaches(&self, note: Note) -> Result<(), Unread> {
         let core =
             self.until(|node| node.seen().is_some_and(|seen| seen.engine != note.engine || seen.place >= note.place))?;
         match core.node.seen() {
             Some(seen) if seen.engine == note.engine => Ok(()),
-            _ => Err(Fault::OtherEngine),
+            _ => Err(Unread::OtherEngine),
         }
     }
 
@@ -211,16 +246,17 @@ where
     /// # Errors
     /// Why the node has stopped, or that nothing was learned.
     pub fn latest(&self) -> Result<Note, Uncalled> {
-        match self.submit(&[])?.wait() {
-            Some(Receipt::Told { note, .. }) => Ok(note),
+        match self.submit(&[])?.wait_for(self.patience) {
+            Ok(Receipt::Told { note, .. }) => Ok(note),
             receipt => Err(self.uncalled(receipt)),
         }
     }
 
-    fn uncalled(&self, receipt: Option<Receipt<M::Reply>>) -> Uncalled {
+    fn uncalled(&self, receipt: Result<Receipt<M::Reply>, Unsettled>) -> Uncalled {
         match receipt {
-            Some(Receipt::NeverMade) => Uncalled::NeverMade,
-            Some(Receipt::MadeUnseen) => Uncalled::MadeUnseen,
+            Ok(Receipt::NeverMade) => Uncalled::NeverMade,
+            Ok(Receipt::MadeUnseen) => Uncalled::MadeUnseen,
+            Err(Unsettled::Late) => Uncalled::Late,
             _ => self.fault().map_or(Uncalled::Unknown, Uncalled::Stopped),
         }
     }
@@ -251,7 +287,7 @@ where
     /// # Errors
     /// As [`Running::reader`].
     #[inline]
-    pub fn read<T>(&mut self, read: impl FnOnce(M::View<'_>) -> T) -> Result<T, Fault> {
+    pub fn read<T>(&mut self, read: impl FnOnce(M::View<'_>) -> T) -> Result<T, Unread> {
         loop {
             if let Some(view) = self.replica.view() {
                 return Ok(read(view));
@@ -261,7 +297,7 @@ where
     }
 
     #[cold]
-    fn begin_anew(&mut self) -> Result<(), Fault> {
+    fn begin_anew(&mut self) -> Result<(), Unread> {
         self.replica = self.node.replica()?;
         Ok(())
     }
@@ -276,6 +312,35 @@ pub struct Called {
     pub note: Note,
 }
 
+/// Why nothing is read.
+#[derive(Clone, PartialEq, Eq, Debug)]
+pub enum Unread {
+    /// It took longer than the wait may.
+    Late,
+    /// The note is of another engine.
+    OtherEngine,
+    /// The node has stopped.
+    Stopped(Fault),
+}
+
+impl From<Fault> for Unread {
+    fn from(fault: Fault) -> Unread {
+        Unread::Stopped(fault)
+    }
+}
+
+impl fmt::Display for Unread {
+    fn fmt(&self, f: &mut fmt::Formatter<'_>) -> fmt::Result {
+        match self {
+            Unread::Late => f.write_str("it took too long"),
+            Unread::OtherEngine => f.write_str("the note is of another engine"),
+            Unread::Stopped(fault) => write!(f, "the node has stopped: {fault}"),
+        }
+    }
+}
+
+impl std::error::Error for Unread {}
+
 /// Why a call has no reply.
 #[derive(Clone, PartialEq, Eq, Debug)]
 pub enum Uncalled {
@@ -289,6 +354,8 @@ pub enum Uncalled {
     MadeUnseen,
     /// It was made once or never.
     Unknown,
+    /// It took longer than the wait may: it may still be made.
+    Late,
     /// The node has stopped. What waited was made once or never.
     Stopped(Fault),
 }
@@ -301,6 +368,7 @@ impl fmt::Display for Uncalled {
             Uncalled::NeverMade => f.write_str("the call was not made and never will be"),
             Uncalled::MadeUnseen => f.write_str("the call was made, and its reply is lost"),
             Uncalled::Unknown => f.write_str("the call was made once or never"),
+            Uncalled::Late => f.write_str("it took too long: the call may still be made"),
             Uncalled::Stopped(fault) => write!(f, "the node has stopped: {fault}"),
         }
     }
@@ -308,33 +376,68 @@ impl fmt::Display for Uncalled {
 
 impl std::error::Error for Uncalled {}
 
+/// A call on its way: for a thread that waits for its reply, or a task of any runtime, to which it is a future. A wait that is late loses nothing.
+///
+/// ```
+/// # use histar_cluster::{memory::Memory, limits, Name, Options, Running, Uncalled};
+/// # use histar::{trusted::Thread, Call};
+/// # use std::time::Duration;
+/// # let name = |text| Name::new(text).unwrap();
+/// # let limits = limits(&histar::Limits::pages(64));
+/// # let options = Options { cluster: name("c"), node: name("n"), limits, lanes: 1, interval: 1000, any: 1 };
+/// let node: Running<histar::Kernel> = Running::open(Memory::new(), options);
+/// let mut calling = node.calls(Thread::BOOT, &Call::CatCreate).unwrap();
+/// let called = match calling.wait_for(Duration::from_millis(1)) {
+///     Err(Uncalled::Late) => calling.wait_for(Duration::from_secs(60)),
+///     called => called,
+/// };
+/// assert!(called.unwrap().reply.is_ok());
+/// ```
+pub struct Calling<'n> {
+    node: &'n Running<Kernel>,
+    waiting: Waiting<Result<Reply, Refused>>,
+}
+
+impl Calling<'_> {
+    /// Waits for the reply.
+    ///
+    /// # Errors
+    /// Why there is none; [`Uncalled::Late`] where one may wait again.
+    pub fn wait_for(&mut self, time: Duration) -> Result<Called, Uncalled> {
+        self.node.called(self.waiting.wait_for(time))
+    }
+}
+
+impl Future for Calling<'_> {
+    type Output = Result<Called, Uncalled>;
+
+    fn poll(mut self: Pin<&mut Self>, context: &mut Context<'_>) -> Poll<Self::Output> {
+        let receipt = Pin::new(&mut self.waiting).poll(context);
+        receipt.map(|receipt| self.node.called(receipt.ok_or(Unsettled::Never)))
+    }
+}
+
 impl Running<Kernel> {
-    /// A write call of a thread of this node, once it is played.
+    /// A write call of a thread of this node, once it is played. Where the wait is late, its reply is lost: [`calls`](Running::calls) keeps it.
     ///
     /// # Errors
     /// Why it has no reply.
     pub fn call(&self, thread: Thread, call: &Call<'_>) -> Result<Called, Uncalled> {
-        let waiting = self.submits(thread, call)?;
-        self.called(waiting.wait())
+        self.calls(thread, call)?.wait_for(self.patience)
     }
 
-    /// The same, for a task of any runtime: its callers need no thread each.
+    /// The same, on its way.
     ///
     /// # Errors
-    /// As [`Running::call`].
-    pub async fn call_later(&self, thread: Thread, call: &Call<'_>) -> Result<Called, Uncalled> {
-        let waiting = self.submits(thread, call)?;
-        self.called(waiting.await)
-    }
-
-    fn submits(&self, thread: Thread, call: &Call<'_>) -> Result<Waiting<Result<Reply, Refused>>, Uncalled> {
+    /// Why it is no call, or that the node has stopped.
+    pub fn calls(&self, thread: Thread, call: &Call<'_>) -> Result<Calling<'_>, Uncalled> {
         let record = Record::new(thread, call).map_err(|_| Uncalled::NoCall)?;
-        self.submit(&[Item::Call(record)])
+        Ok(Calling { node: self, waiting: self.submit(&[Item::Call(record)])? })
     }
 
-    fn called(&self, receipt: Option<Receipt<Result<Reply, Refused>>>) -> Result<Called, Uncalled> {
+    fn called(&self, receipt: Result<Receipt<Result<Reply, Refused>>, Unsettled>) -> Result<Called, Uncalled> {
         match receipt {
-            Some(Receipt::Told { mut told, note }) => match told.pop() {
+            Ok(Receipt::Told { mut told, note }) => match told.pop() {
                 Some(Told::Reply(reply)) => Ok(Called { reply, note }),
                 _ => Err(Uncalled::OtherNode),
             },

@@ -5,7 +5,7 @@ use crate::keys::{Keys, Lane, LogKey};
 use crate::order::{Order, Turn};
 use crate::replica::{Played, Start};
 use crate::sha256::{sha256, Digest};
-use crate::spelling::{put_bytes, put_number, take_bytes, take_number};
+use crate::spelling::{put_bytes, put_number, take, take_bytes, take_number};
 use crate::{Fault, Machine, Name, Told, Unrestored, Written};
 use std::collections::{BTreeMap, BTreeSet};
 
@@ -30,6 +30,8 @@ pub(crate) struct Boot {
     pub limits: Vec<u8>,
     /// The node that the boot thread belongs to.
     pub first: Name,
+    /// The digest of the beginning that the key `start` has, where the cluster begins at another one's state.
+    pub from: Option<Digest>,
 }
 
 impl Boot {
@@ -39,6 +41,7 @@ impl Boot {
         put_number(&mut out, self.interval);
         put_bytes(&mut out, &self.limits);
         put_bytes(&mut out, self.first.text().as_bytes());
+        out.extend(self.from.iter().flatten());
         out
     }
 
@@ -55,7 +58,55 @@ impl Boot {
         let rest = &mut rest;
         let (rules, interval, limits) = (take_number(rest)?, take_number(rest)?, take_bytes(rest)?.to_vec());
         let first = Name::new(std::str::from_utf8(take_bytes(rest)?).ok()?)?;
-        (rest.is_empty() && interval > 0).then_some(Boot { rules, interval, limits, first })
+        let from = if rest.is_empty() { None } else { Some(take(rest, 32)?.try_into().ok()?) };
+        (rest.is_empty() && interval > 0).then_some(Boot { rules, interval, limits, first, from })
+    }
+}
+
+/// Which node a thread belongs to.
+pub(crate) type Owners = BTreeMap<u64, Name>;
+
+fn put_owners(out: &mut Vec<u8>, owners: &Owners) {
+    put_number(out, owners.len() as u64);
+    for (thread, node) in owners {
+        put_number(out, *thread);
+        put_bytes(out, node.text().as_bytes());
+    }
+}
+
+fn take_owners(rest: &mut &[u8]) -> Option<Owners> {
+    let mut owners = BTreeMap::new();
+    for _ in 0..take_number(rest)? {
+        let thread = take_number(rest)?;
+        owners.insert(thread, Name::new(std::str::from_utf8(take_bytes(rest)?).ok()?)?);
+    }
+    Some(owners)
+}
+
+/// What a cluster begins with that begins at another one's state.
+#[derive(Clone, PartialEq, Eq, Debug)]
+pub(crate) struct Beginning {
+    pub owners: Owners,
+    /// The machine's state.
+    pub machine: Vec<u8>,
+}
+
+impl Beginning {
+    pub fn bytes(&self) -> Vec<u8> {
+        let mut out = Vec::new();
+        put_owners(&mut out, &self.owners);
+        out.extend_from_slice(&self.machine);
+        out
+    }
+
+    pub fn read(mut bytes: &[u8]) -> Option<Beginning> {
+        let owners = take_owners(&mut bytes)?;
+        Some(Beginning { owners, machine: bytes.to_vec() })
+    }
+
+    /// The machine of the state, under these rules and limits.
+    pub fn machine<M: Machine>(&self, boot: &Boot) -> Result<M, Fault> {
+        restored(&boot.limits, boot.rules, &self.machine)
     }
 }
 
@@ -100,8 +151,8 @@ pub(crate) struct State<M> {
     voids: BTreeSet<u64>,
     pub machine: M,
     pub order: Order,
-    // Which node a thread belongs to. A thread that is gone may stand in it until the next mark.
-    owners: BTreeMap<u64, Name>,
+    // A thread that is gone may stand in it until the next mark.
+    owners: Owners,
     rules: u64,
     // The points after the last entries: what an entry or a node has to agree with.
     history: History,
@@ -112,13 +163,17 @@ pub(crate) struct State<M> {
 }
 
 impl<M: Machine> State<M> {
-    /// The state of a newly booted cluster.
-    pub fn new(keys: Keys, boot: Boot, voids: BTreeSet<u64>) -> Result<State<M>, Fault> {
-        let mut machine = M::boot(&boot.limits).map_err(Fault::NoMachine)?;
-        if !machine.set_rules(boot.rules) {
-            return Err(Fault::UnknownRules { rules: boot.rules, place: 0 });
-        }
-        let owners = BTreeMap::from([(BOOT_THREAD, boot.first.clone())]);
+    /// The state of a newly booted cluster. The bytes are what the key `start` has.
+    pub fn new(keys: Keys, boot: Boot, voids: BTreeSet<u64>, start: Option<&[u8]>) -> Result<State<M>, Fault> {
+        let (machine, mut owners) = match (&boot.from, start) {
+            (None, _) => (booted(&boot)?, Owners::new()),
+            (Some(digest), Some(start)) if sha256(start) == *digest => {
+                let beginning = Beginning::read(start).ok_or(Fault::OtherBoot)?;
+                (beginning.machine(&boot)?, beginning.owners)
+            }
+            (Some(_), _) => return Err(Fault::OtherBoot),
+        };
+        owners.insert(BOOT_THREAD, boot.first.clone());
         let first = Point { entries: 0, place: 0, digest: sha256(&boot.bytes()) };
         let rules = boot.rules;
         Ok(State {
@@ -277,6 +332,15 @@ impl<M: Machine> State<M> {
         }
     }
 
+    /// What another cluster begins with that begins at this state.
+    pub fn beginning(&self) -> Result<Beginning, Fault> {
+        match self.machine.checkpoint() {
+            Written::State(machine) => Ok(Beginning { owners: self.owners.clone(), machine }),
+            Written::Never => Err(Fault::NoMachine("it is begun at no state".into())),
+            Written::NoMemory => Err(Fault::NoMemory),
+        }
+    }
+
     /// Where a replica of the machine begins.
     pub fn start(&self) -> Result<Start<M>, Fault> {
         match self.machine.checkpoint() {
@@ -323,11 +387,7 @@ impl<M: Machine> State<M> {
         out.extend_from_slice(&self.point().bytes());
         [self.marked, self.rules].iter().for_each(|number| put_number(&mut out, *number));
         self.order.put(&mut out);
-        put_number(&mut out, self.owners.len() as u64);
-        for (thread, node) in &self.owners {
-            put_number(&mut out, *thread);
-            put_bytes(&mut out, node.text().as_bytes());
-        }
+        put_owners(&mut out, &self.owners);
         out.extend_from_slice(machine);
         out
     }
@@ -348,11 +408,7 @@ impl<M: Machine> State<M> {
         let point = Point::take(rest)?;
         let (marked, rules) = (take_number(rest)?, take_number(rest)?);
         let order = Order::take(rest)?;
-        let mut owners = BTreeMap::new();
-        for _ in 0..take_number(rest)? {
-            let thread = take_number(rest)?;
-            owners.insert(thread, Name::new(std::str::from_utf8(take_bytes(rest)?).ok()?)?);
-        }
+        let owners = take_owners(rest)?;
         let restored = restored(&self.boot.limits, rules, rest);
         Some(restored.map(|machine| State {
             keys: self.keys.clone(),
@@ -367,6 +423,16 @@ impl<M: Machine> State<M> {
             since: (0, 0),
             played: Played::default(),
         }))
+    }
+}
+
+/// A newly booted machine.
+fn booted<M: Machine>(boot: &Boot) -> Result<M, Fault> {
+    let mut machine = M::boot(&boot.limits).map_err(Fault::NoMachine)?;
+    if machine.set_rules(boot.rules) {
+        Ok(machine)
+    } else {
+        Err(Fault::UnknownRules { rules: boot.rules, place: 0 })
     }
 }
 

@@ -2,11 +2,10 @@
 use crate::agreements::Agreements;
 use crate::engine::Pair;
 use crate::history::Point;
-use crate::keys::{Keys, LogKey};
+use crate::keys::{end_of, Key, Keys, LogKey};
 use crate::receipt::Fault;
 use crate::sha256::{sha256, Digest};
-use crate::spelling::take_number;
-use crate::state::{Boot, State, Step};
+use crate::state::{Beginning, Boot, State, Step};
 use crate::Name;
 use histar::{Keep, Kernel, Refused};
 use std::collections::{BTreeMap, BTreeSet};
@@ -19,8 +18,8 @@ pub struct Standing {
     pub node: Name,
     /// Its incarnation.
     pub incarnation: u64,
-    /// The place up to which it had played when it last said so.
-    pub reached: u64,
+    /// So many entries it had played when it last said so.
+    pub played: u64,
 }
 
 /// What nodes say of one number of entries.
@@ -43,10 +42,8 @@ pub struct Survey {
     pub standing: Vec<Standing>,
     /// The entries of each node that are in the log.
     pub entries: BTreeMap<Name, u64>,
-    /// The bytes of these, keys and values.
-    pub bytes: u64,
-    /// The greatest place of a key of the log.
-    pub last: u64,
+    /// The most entries that a node has played.
+    pub played: u64,
     /// The greatest number of entries after which two nodes agree.
     pub agreed: Option<Opinion>,
     /// The greatest number of entries after which nodes differ.
@@ -58,7 +55,8 @@ pub struct Survey {
 }
 
 impl Survey {
-    /// Reads all keys of a cluster: those that [`range`] tells, at one revision.
+    /// Reads the keys of a cluster, at one revision: all, or those of [`surveyed`] with the names of the [`checkpoints`]; then
+    /// the [`entries`] of each node are counted apart.
     pub fn of(cluster: &Name, pairs: &[Pair]) -> Survey {
         let keys = Keys::new(cluster.clone());
         let boot = begun(&keys, pairs).ok();
@@ -67,8 +65,7 @@ impl Survey {
             first: boot.map(|boot| boot.first),
             standing: Vec::new(),
             entries: BTreeMap::new(),
-            bytes: 0,
-            last: 0,
+            played: 0,
             agreed: None,
             disputed: None,
             checkpoints: Vec::new(),
@@ -81,8 +78,7 @@ impl Survey {
             } else if let Some(place) = keys.read_void(&pair.key) {
                 survey.voids.push(place);
             } else if let Some(node) = keys.read_fence(&pair.key) {
-                let reached = take_number(&mut &pair.value[..]).unwrap_or(0);
-                survey.standing.push(Standing { node, incarnation: pair.created, reached });
+                survey.standing.push(Standing { node, incarnation: pair.created, played: 0 });
             } else if let Some(key) = keys.read(&pair.key) {
                 survey.takes(key, pair, &mut said);
             }
@@ -93,19 +89,17 @@ impl Survey {
 
     /// Takes a key of the log.
     fn takes<'p>(&mut self, key: LogKey, pair: &'p Pair, said: &mut Said<'p>) {
-        self.last = self.last.max(pair.created);
         match key {
-            LogKey::Entry(lane, _) => {
-                *self.entries.entry(lane.of.node).or_insert(0) += 1;
-                self.bytes += (pair.key.len() + pair.value.len()) as u64;
-            }
+            LogKey::Entry(lane, _) => *self.entries.entry(lane.of.node).or_insert(0) += 1,
             LogKey::Agree(node, entries) => said.entry((entries, true)).or_default().push((node, &pair.value)),
             LogKey::Seen(node) => {
                 let Some(point) = Point::read(&pair.value) else { return };
                 said.entry((point.entries, false)).or_default().push((node.clone(), &pair.value));
+                self.played = self.played.max(point.entries);
                 for it in self.standing.iter_mut().filter(|it| it.node == node) {
-                    it.reached = it.reached.max(point.place);
+                    it.played = point.entries;
                 }
+                self.entries.entry(node).or_insert(0);
             }
             LogKey::Close(..) => {}
         }
@@ -144,23 +138,21 @@ impl fmt::Display for Survey {
         let Some(rules) = self.rules else { return writeln!(f, "the cluster has not begun") };
         for it in &self.standing {
             let entries = self.entries.get(&it.node).copied().unwrap_or(0);
-            let behind = self.last.saturating_sub(it.reached);
+            let behind = self.played - it.played;
             writeln!(
                 f,
-                "node {} incarnation {} played {} behind {behind} entries {entries}",
-                it.node, it.incarnation, it.reached
+                "node {} incarnation {} played {} behind {behind}, {entries} of its entries in the log",
+                it.node, it.incarnation, it.played
             )?;
         }
         for (node, entries) in self.entries.iter().filter(|(node, _)| !self.standing.iter().any(|it| it.node == **node))
         {
-            writeln!(f, "node {node} has no fence, entries {entries}")?;
+            writeln!(f, "node {node} has no fence, {entries} of its entries in the log")?;
         }
+        let checkpoint =
+            self.checkpoints.iter().max().map_or("no checkpoint".into(), |it| format!("a checkpoint after {it}"));
         let entries: u64 = self.entries.values().sum();
-        writeln!(
-            f,
-            "log of {entries} entries and {} bytes, last place {}, begun with rules {rules}",
-            self.bytes, self.last
-        )?;
+        writeln!(f, "log of {entries} entries, {checkpoint}, begun with rules {rules}")?;
         match (&self.disputed, &self.agreed) {
             (Some(it), _) => writeln!(f, "NODES DIFFER after {} entries: {}", it.entries, listed(&it.nodes)),
             (None, Some(it)) => writeln!(f, "nodes agree after {} entries: {}", it.entries, listed(&it.nodes)),
@@ -177,6 +169,39 @@ impl fmt::Display for Survey {
 /// ```
 pub fn range(cluster: &Name) -> (Vec<u8>, Vec<u8>) {
     (format!("/{cluster}/").into_bytes(), format!("/{cluster}0").into_bytes())
+}
+
+/// The ranges of keys whose values a survey looks at: none has a call or a state.
+///
+/// ```
+/// let ranges = histar_cluster::surveyed(&histar_cluster::Name::new("c").unwrap());
+/// assert_eq!(ranges[0], (b"/c/boot".to_vec(), b"/c/fence0".to_vec()));
+/// ```
+pub fn surveyed(cluster: &Name) -> [(Key, Key); 3] {
+    let keys = Keys::new(cluster.clone());
+    let all = |prefix: Key| (prefix.clone(), end_of(prefix));
+    [keys.begun(), all(keys.agreements()), all(keys.all_seen())]
+}
+
+/// The range of the entries of a node, which have calls.
+///
+/// ```
+/// let name = |text| histar_cluster::Name::new(text).unwrap();
+/// assert_eq!(histar_cluster::entries(&name("c"), &name("n")).0, b"/c/log/e/n/");
+/// ```
+pub fn entries(cluster: &Name, node: &Name) -> (Key, Key) {
+    let prefix = Keys::new(cluster.clone()).entries_of(node);
+    (prefix.clone(), end_of(prefix))
+}
+
+/// The range of the checkpoints, which are states.
+///
+/// ```
+/// assert_eq!(histar_cluster::checkpoints(&histar_cluster::Name::new("c").unwrap()).0, b"/c/state/");
+/// ```
+pub fn checkpoints(cluster: &Name) -> (Key, Key) {
+    let prefix = Keys::new(cluster.clone()).states();
+    (prefix.clone(), end_of(prefix))
 }
 
 /// The keys of a cluster, as they are played again.
@@ -221,7 +246,8 @@ impl<'p> Log<'p> {
     }
 
     fn state(&self, start: Start<'_>) -> Result<State<Kernel>, Fault> {
-        let state = State::new(self.keys.clone(), self.boot.clone(), self.voids.clone())?;
+        let beginning = self.pairs.iter().find(|pair| pair.key == self.keys.start()).map(|pair| &pair.value[..]);
+        let state = State::new(self.keys.clone(), self.boot.clone(), self.voids.clone(), beginning)?;
         match start {
             None => Ok(state),
             Some((entries, bytes)) => state.restore(entries, bytes),
@@ -267,6 +293,18 @@ impl<'p> Log<'p> {
     }
 }
 
+/// Does something from where a log is whole: from its beginning, or from the first checkpoint from which on it is.
+fn from_whole<T>(log: &Log<'_>, act: impl Fn(Start<'_>) -> Result<T, Fault>) -> Result<T, Fault> {
+    let mut why = Fault::NoCheckpoint;
+    for start in log.starts() {
+        match log.check(start) {
+            Ok(()) => return act(start),
+            Err(fault) => why = fault,
+        }
+    }
+    Err(why)
+}
+
 /// The dump of a kernel that plays the log, for `histar-audit`: the whole of it, or what comes after the first checkpoint from which on it is
 /// whole. The pairs are all keys of the cluster at one revision.
 ///
@@ -274,12 +312,15 @@ impl<'p> Log<'p> {
 /// Why the log can't be played.
 pub fn audit(cluster: &Name, pairs: &[Pair]) -> Result<String, Fault> {
     let log = Log::new(cluster, pairs)?;
-    let mut why = Fault::NoCheckpoint;
-    for start in log.starts() {
-        match log.check(start) {
-            Ok(()) => return log.dump(start),
-            Err(fault) => why = fault,
-        }
-    }
-    Err(why)
+    from_whole(&log, |start| log.dump(start))
+}
+
+/// The state that the log leads to, with its rules.
+pub(crate) fn last_state(cluster: &Name, pairs: &[Pair]) -> Result<(u64, Beginning), Fault> {
+    let log = Log::new(cluster, pairs)?;
+    from_whole(&log, |start| {
+        let mut state = log.state(start)?;
+        log.play(&mut state)?;
+        Ok((state.rules(), state.beginning()?))
+    })
 }

@@ -47,6 +47,15 @@ fn taken<R>(state: &mut State<R>) -> Option<Option<Receipt<R>>> {
 /// The receipt that a caller waits for: as a thread, or as a task of any runtime, to which it is a future.
 pub struct Waiting<R>(Arc<Slot<R>>);
 
+/// Why there is no receipt.
+#[derive(Clone, Copy, PartialEq, Eq, Debug)]
+pub enum Unsettled {
+    /// It is not known yet. One may wait again.
+    Late,
+    /// The node stopped before it was known.
+    Never,
+}
+
 /// Who tells it. Nobody does where this is dropped before.
 pub(crate) struct Teller<R>(Arc<Slot<R>>);
 
@@ -82,15 +91,18 @@ impl<R> Waiting<R> {
         }
     }
 
-    /// The same, for so long at most. Nothing is promised where there is none yet: the items may still be played, and one may wait again.
-    pub fn wait_for(&self, time: Duration) -> Option<Receipt<R>> {
-        let end = Instant::now() + time;
+    /// The same, for so long at most. Where it is late, the items may still be played, and one may wait again.
+    ///
+    /// # Errors
+    /// Why there is no receipt.
+    pub fn wait_for(&self, time: Duration) -> Result<Receipt<R>, Unsettled> {
+        let began = Instant::now();
         let mut state = self.0.state();
         loop {
             if let Some(receipt) = taken(&mut state) {
-                return receipt;
+                return receipt.ok_or(Unsettled::Never);
             }
-            let left = end.checked_duration_since(Instant::now())?;
+            let left = time.checked_sub(began.elapsed()).ok_or(Unsettled::Late)?;
             state = self.0.is_settled.wait_timeout(state, left).unwrap_or_else(PoisonError::into_inner).0;
         }
     }
@@ -148,9 +160,12 @@ mod tests {
     #[test]
     fn a_receipt_survives_a_wait() {
         let (teller, waiting) = waiting::<u64>();
-        assert_eq!(waiting.wait_for(Duration::from_millis(1)), None);
+        assert_eq!(waiting.wait_for(Duration::from_millis(1)), Err(Unsettled::Late));
         let thread = std::thread::spawn(move || waiting.wait());
         teller.tell(Receipt::Unknown);
         assert_eq!(thread.join().expect("no waiter panics"), Some(Receipt::Unknown));
+        let (teller, waiting) = super::waiting::<u64>();
+        drop(teller);
+        assert_eq!(waiting.wait_for(Duration::MAX), Err(Unsettled::Never));
     }
 }

@@ -11,7 +11,8 @@ use histar::{label, Call, Entry, Kernel, Level, Limits, Object, Reply};
 use histar_cluster::engine::{Pair, Request};
 use histar_cluster::memory::Memory;
 use histar_cluster::{
-    audit, limits, Digest, Fault, Item, Machine, Name, Options, Receipt, Running, Told, Unrestored, Written,
+    audit, beginning_from, export, limits, range, retired, Digest, Fault, Item, Machine, Name, Options, Receipt,
+    Running, Told, Unexported, Unrestored, Written,
 };
 use player::{Player, Real};
 use std::time::{Duration, Instant};
@@ -277,4 +278,90 @@ fn a_node_without_memory_for_a_text_does_no_harm() {
         || keys(&store, "log/a/west").last().is_some_and(|it| it.key > format!("/c/log/a/west{place}").into_bytes());
     until(|| agreed().then_some(()));
     assert_eq!([north.fault(), south.fault(), west.fault()], [None, None, None]);
+}
+
+/// What begins a cluster with so many pages, whose boot thread is a node's.
+fn begins(node: &str, pages: u32) -> Options {
+    let limits = limits(&Limits::pages(pages));
+    Options { cluster: name("d"), node: name(node), limits, lanes: 1, interval: INTERVAL, any: 1 }
+}
+
+fn all(store: &Memory) -> Vec<Pair> {
+    let (from, to) = range(&name("c"));
+    store.store().range(&from, &to, u64::MAX)
+}
+
+#[test]
+fn a_cluster_begins_at_the_state_of_another_one_with_more_pages() {
+    let store = Memory::new();
+    let (north, _south, mut deeds) = dropped(&store);
+    deeds.go_on(&north);
+    let (_, _, before) = state(&north);
+    let bytes = export(&name("c"), &all(&store)).expect("a state");
+    let other = Memory::new();
+    other.store().transact(
+        &beginning_from(&begins("north", 100), &bytes).expect("a beginning").map(|(key, value)| (key, Some(value))),
+    );
+    let open = |node: &str| Running::<Kernel>::open(other.clone(), begins(node, 100));
+    let (first, second) = (open("north"), open("south"));
+    first.latest().expect("a note");
+    let grown =
+        before.replace("limits 64 ", "limits 100 ").replace("object 1 container 64 ", "object 1 container 100 ");
+    assert_eq!(first.read(|kernel| kernel.checkpoint()).expect("a machine").expect("a text"), grown);
+    // (it goes on, also past its own checkpoints, and its threads are whose they were)
+    (0..2 * INTERVAL).for_each(|_| deeds.go_on(&first));
+    see_all(&[&first, &second]);
+    are_alike(&[&first, &second, &open("east")]);
+    let wrong = second.call(Thread::BOOT, &Call::CatCreate);
+    assert_eq!(wrong, Err(histar_cluster::Uncalled::OtherNode));
+    // (the audit of it begins at the state)
+    let pairs = other.store().range(b"/d/", b"/d0", u64::MAX);
+    assert!(audit(&name("d"), &pairs).expect("a dump").starts_with("histar-dump 2\nlimits 100 "));
+    // (what it begins at is changed: no node starts)
+    other.store().put(b"/d/start", b"x", None);
+    assert_eq!(stops(&open("west")), Fault::OtherBoot);
+}
+
+#[test]
+fn what_is_no_exported_state_begins_nothing() {
+    let store = Memory::new();
+    let (north, _south, _) = dropped(&store);
+    north.latest().expect("a note");
+    let bytes = export(&name("c"), &all(&store)).expect("a state");
+    for at in 0..bytes.len() {
+        let mut changed = bytes.clone();
+        changed[at] ^= 1;
+        assert_eq!(beginning_from(&begins("north", 64), &changed), Err(Unexported::NoExport), "byte {at}");
+        assert_eq!(beginning_from(&begins("north", 64), &bytes[..at]), Err(Unexported::NoExport), "{at} bytes");
+    }
+    assert!(beginning_from(&begins("north", 64), &bytes).is_ok());
+    assert_eq!(beginning_from(&begins("north", 4), &bytes), Err(Unexported::NoKernel(Fault::NoCheckpoint)));
+}
+
+#[test]
+fn what_a_retired_node_agrees_on_stays_where_another_needs_it() {
+    let store = Memory::new();
+    let (north, south, mut deeds) = dropped(&store);
+    drop(south);
+    let agreements = || keys(&store, "log/a");
+    let number = |key: &[u8]| key.rsplit(|it| *it == b'/').next().map(<[u8]>::to_vec);
+    let both = |found: &[Pair]| {
+        found
+            .iter()
+            .map(|it| number(&it.key))
+            .filter(|it| found.iter().filter(|other| number(&other.key) == *it).count() == 2)
+            .max()
+    };
+    let found = until(|| Some(agreements()).filter(|found| both(found).is_some()));
+    let goes = retired(&name("c"), &name("south"), &found);
+    assert!(goes[2..].iter().all(|(from, _)| both(&found) != Some(number(from))), "{goes:?}");
+    let east: Running<Kernel> = open(&store, "east");
+    until(|| {
+        deeds.go_on(&north);
+        (both(&agreements()) > both(&found) && east.fault().is_none()).then_some(())
+    });
+    for (from, to) in retired(&name("c"), &name("south"), &agreements()) {
+        store.store().act(&Request::Drop { from, to }, 1);
+    }
+    see_all(&[&north, &open(&store, "west")]);
 }

@@ -4,7 +4,9 @@ mod model;
 
 use histar_cluster::engine::{Answer, Answers, Engine, Request};
 use histar_cluster::memory::{Memory, Store};
-use histar_cluster::{beginning, void, Fault, Item, Name, Node, Options, Output, Receipt, Running, Told, Uncalled};
+use histar_cluster::{
+    beginning, void, Fault, Item, Name, Node, Options, Output, Receipt, Running, Told, Uncalled, Unread, Unsettled,
+};
 use model::{Call, Model, Reply};
 use std::collections::{BTreeSet, VecDeque};
 use std::sync::atomic::{AtomicBool, AtomicU64, Ordering};
@@ -75,7 +77,7 @@ fn a_read_sees_what_its_note_tells() {
         assert_eq!(north.reaches(note), Ok(()));
     }
     let other = histar_cluster::Note { engine: 99, place: 1 };
-    assert_eq!(north.reaches(other), Err(Fault::OtherEngine));
+    assert_eq!(north.reaches(other), Err(Unread::OtherEngine));
 }
 
 #[test]
@@ -269,7 +271,7 @@ fn unknown_rules_stop_each_node_at_their_place() {
     let fault = Fault::UnknownRules { rules: 3, place };
     assert_eq!((waiting.wait(), stops(&south)), (None, fault.clone()));
     assert_eq!(north.latest(), Err(Uncalled::Stopped(fault.clone())));
-    assert_eq!(reader.read(|model| model.replies.len()), Err(fault));
+    assert_eq!(reader.read(|model| model.replies.len()), Err(Unread::Stopped(fault)));
 }
 
 #[test]
@@ -423,6 +425,73 @@ fn entries_of_one_transaction_are_played_alike() {
     told(&north, &[call(2, 2, 0)]);
     let east = open(&store, "east");
     are_alike_or_stop(&[&north, &south, &east]);
+}
+
+#[test]
+fn each_wait_ends_after_its_time() {
+    let time = Duration::from_millis(30);
+    let alone: Running<Model> = Running::open(Silent, options("north"));
+    let node = alone.within(time);
+    assert_eq!(node.read(|_| ()), Err(Unread::Late));
+    assert_eq!(node.reader().err(), Some(Unread::Late));
+    assert_eq!(node.latest(), Err(Uncalled::Late));
+    assert_eq!(node.reaches(histar_cluster::Note { engine: 1, place: 1 }), Err(Unread::Late));
+    let waiting = alone.submit(&[call(2, 1, 0)]).expect("a node that runs");
+    assert_eq!(waiting.wait_for(time), Err(Unsettled::Late));
+    // (it has put nothing, so it leaves at once; what waits is never made)
+    assert_eq!(node.leave(), Ok(()));
+    assert_eq!(waiting.wait_for(time), Ok(Receipt::NeverMade));
+}
+
+#[test]
+fn a_receipt_that_was_late_is_told_all_the_same() {
+    let store = Memory::new();
+    let (north, _south) = north_and_south(&store);
+    let held = store.store();
+    let waiting = north.submit(&[call(2, 1, 0)]).expect("a node that runs");
+    assert_eq!(waiting.wait_for(Duration::from_millis(20)), Err(Unsettled::Late));
+    drop(held);
+    assert!(matches!(waiting.wait_for(Duration::from_secs(60)), Ok(Receipt::Told { .. })));
+}
+
+#[test]
+fn a_node_that_leaves_gives_its_fence_back() {
+    let store = Memory::new();
+    let (north, south) = north_and_south(&store);
+    told(&north, &[call(2, 1, 0)]);
+    until(|| north.status().is_some_and(|status| status.incarnation.is_some()));
+    let fences = |store: &Memory| store.store().range(b"/c/fence/north/", b"/c/fence/north0", u64::MAX).len();
+    assert_eq!(fences(&store), 1);
+    let closing = format!("/c/log/c/north/{}", spelled(north.status().and_then(|it| it.incarnation).expect("one")));
+    let waiting: Vec<_> =
+        (2..20).map(|number| north.submit(&[call(2, number, 0)]).expect("a node that runs")).collect();
+    assert_eq!(north.within(Duration::from_secs(60)).leave(), Ok(()));
+    assert_eq!(fences(&store), 0);
+    assert_eq!(store.store().range(closing.as_bytes(), &[closing.as_bytes(), &[0]].concat(), u64::MAX).len(), 1);
+    let made: Vec<bool> = waiting
+        .into_iter()
+        .map(|it| match it.wait() {
+            Some(Receipt::Told { .. }) => true,
+            Some(Receipt::NeverMade) => false,
+            other => panic!("{other:?}"),
+        })
+        .collect();
+    let later = north.submit(&[call(2, 30, 0)]).expect("a node that runs").wait();
+    assert_eq!(later, Some(Receipt::NeverMade));
+    south.latest().expect("a note");
+    let played = south.read(|model| (2..20).map(|it| model.replies.contains_key(&it)).collect::<Vec<_>>());
+    assert_eq!(played, Ok(made));
+    // (the next start has its threads)
+    assert!(matches!(told(&open(&store, "north"), &[call(2, 31, 0)])[0], Told::Reply(_)));
+}
+
+#[test]
+fn who_has_a_nodes_name_too_is_told_of() {
+    let store = Memory::new();
+    let (north, _south) = north_and_south(&store);
+    until(|| north.status().is_some_and(|it| it.incarnation.is_some() && it.namesakes == 0));
+    let twin = Running::<Model>::open(store.clone(), Options { any: 1 << 20, ..options("north") });
+    until(|| [&north, &twin].iter().all(|it| it.status().is_some_and(|it| it.namesakes == 1)));
 }
 
 #[test]

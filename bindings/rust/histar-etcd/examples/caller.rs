@@ -5,19 +5,14 @@
 //! `caller run CLUSTER MEMBERS NODE THREAD FILE CALLERS SECONDS` writes a line into FILE before each call and one after it.
 //! `caller check CLUSTER MEMBERS DUMP` keeps what is put into the log, of which the nodes drop nothing before. Once it is told THREAD FILE of each
 //! file, a line each, it plays the whole log, says what of the files it does not have, and writes it into DUMP.
-#[path = "../src/grpc.rs"]
-#[allow(dead_code)]
-mod grpc;
-#[path = "../src/wire.rs"]
-#[allow(dead_code)]
-mod wire;
 
-use grpc::{Channel, Fault};
 use histar::trusted::{Record, Thread};
 use histar::{label, Call, Entry, Kernel, Limits, Object, Refused, Reply};
 use histar_cluster::engine::{Engine, Pair};
 use histar_cluster::memory::Memory;
 use histar_cluster::{audit, limits, range, Item, Machine, Name, Options, Receipt, Running, Told, Unrestored, Written};
+use histar_etcd::grpc::{Channel, Fault};
+use histar_etcd::wire::{Done, KeyValue, PutRequest, WatchCreate, WatchRequest, WatchResponse};
 use histar_etcd::{tls, Etcd, Files};
 use std::collections::{BTreeMap, HashMap};
 use std::fs::File;
@@ -26,7 +21,6 @@ use std::sync::atomic::{AtomicU64, Ordering};
 use std::sync::mpsc::{channel, RecvTimeoutError};
 use std::sync::{Arc, Mutex, MutexGuard};
 use std::time::{Duration, Instant, SystemTime, UNIX_EPOCH};
-use wire::{Done, KeyValue, PutRequest, WatchCreate, WatchRequest, WatchResponse};
 
 /// A kernel that knows what each record was answered.
 struct Probe {

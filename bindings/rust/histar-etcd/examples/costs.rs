@@ -8,26 +8,20 @@
 //!
 //! Each prints how many puts, calls or reads were done, and the milliseconds that it took. With 0 seconds a thread reads 100,000 times, by
 //! `read_many`, for a count of instructions.
-#[path = "../src/grpc.rs"]
-#[allow(dead_code)]
-mod grpc;
-#[path = "../src/wire.rs"]
-#[allow(dead_code)]
-mod wire;
 
 use bytes::Bytes;
-use grpc::Channel;
 use histar::trusted::{session_of, Record, Thread};
 use histar::{label, Call, Entry, Kernel, Limits, Object, Reply};
 use histar_cluster::memory::Memory;
 use histar_cluster::{limits, Item, Name, Options, Receipt, Running, Told, View};
+use histar_etcd::grpc::Channel;
+use histar_etcd::wire::{Done, PutRequest, WatchCreate, WatchRequest, WatchResponse};
 use histar_etcd::Etcd;
 use std::borrow::Cow;
 use std::sync::atomic::{AtomicU64, Ordering};
 use std::sync::Arc;
 use std::time::{Duration, Instant, SystemTime, UNIX_EPOCH};
 use tokio::runtime::Builder;
-use wire::{Done, PutRequest, WatchCreate, WatchRequest, WatchResponse};
 
 /// The bytes of a put, as many as an entry of one write has.
 const BYTES: usize = 72;

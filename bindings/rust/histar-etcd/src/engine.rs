@@ -1,5 +1,6 @@
 //! etcd as the engine of a cluster.
 use crate::grpc::{Channel, Fault, Stream};
+use crate::tls::Tls;
 use crate::wire::*;
 use bytes::Bytes;
 use histar_cluster::engine::{Answer, Answers, Engine, Event, Pair, Request};
@@ -9,7 +10,6 @@ use std::sync::{Arc, Mutex, PoisonError};
 use std::time::Duration;
 use tokio::runtime::{Builder, Runtime};
 use tokio::task::JoinHandle;
-use tokio_rustls::rustls::ClientConfig;
 
 /// After this time an answer is taken for lost, and another member is asked. A member that is paused keeps its connections open.
 const PATIENCE: Duration = Duration::from_millis(1500);
@@ -33,13 +33,13 @@ pub struct Etcd {
     /// `HOST:PORT` of each member: at least one.
     pub members: Vec<String>,
     /// The certificates of the members and the node, for TLS.
-    pub tls: Option<Arc<ClientConfig>>,
+    pub tls: Option<Tls>,
     /// The seconds after which a node that says nothing is taken for gone.
     pub lease: i64,
 }
 
 /// A client that goes from member to member.
-struct Client {
+pub(crate) struct Client {
     etcd: Etcd,
     /// The connection, and how many were opened: the next one is to the next member.
     open: tokio::sync::Mutex<(usize, Option<Channel>)>,
@@ -96,7 +96,7 @@ struct Asks {
 }
 
 /// The end of an exchange: the engine's identity, and the answer.
-type Told = Result<(u64, Answer), Fault>;
+pub(crate) type Told = Result<(u64, Answer), Fault>;
 
 fn header(header: &Option<Header>) -> (u64, u64) {
     header.as_ref().map_or((0, 0), |header| (header.cluster_id, header.revision as u64))
@@ -124,85 +124,6 @@ impl Drop for Ending {
         if let Some(runtime) = self.0.take() {
             runtime.shutdown_background();
         }
-    }
-}
-
-/// How a member is.
-#[derive(Clone, PartialEq, Eq, Debug)]
-pub struct Member {
-    /// Its address.
-    pub address: String,
-    /// The bytes of its file, and those of them that are in use.
-    pub size: (u64, u64),
-    /// Its alarms, as that it has no space.
-    pub alarms: Vec<String>,
-}
-
-impl Etcd {
-    /// Puts a key that is not there. False where it is.
-    ///
-    /// # Errors
-    /// That no member answers, or what it answers instead.
-    pub fn put_new(&self, key: &[u8], value: &[u8]) -> Result<bool, String> {
-        let told = self.alone(|client| async move { client.put(key.to_vec(), value.to_vec(), 0, true).await })?;
-        Ok(matches!(told, (_, Answer::Put { is_done: true, .. })))
-    }
-
-    /// How each member is.
-    ///
-    /// # Errors
-    /// That one does not answer, or what it answers instead.
-    pub fn status(&self) -> Result<Vec<Member>, String> {
-        let of = |address: &String| {
-            let alone = Etcd { members: vec![address.clone()], ..self.clone() };
-            let asked = |client: Client| async move {
-                client.ask::<_, StatusResponse>("/etcdserverpb.Maintenance/Status", &StatusRequest {}).await
-            };
-            let StatusResponse { size, in_use, alarms } =
-                alone.alone(asked).map_err(|why| format!("{address}: {why}"))?;
-            Ok(Member { address: address.clone(), size: (size as u64, in_use as u64), alarms })
-        };
-        self.members.iter().map(of).collect()
-    }
-
-    /// Does something by a client of its own.
-    fn alone<T, F: std::future::Future<Output = Result<T, Fault>>>(
-        &self,
-        act: impl FnOnce(Client) -> F,
-    ) -> Result<T, String> {
-        let runtime = Builder::new_current_thread().enable_all().build().map_err(|error| error.to_string())?;
-        runtime.block_on(act(Client::new(self.clone()))).map_err(|fault| match fault {
-            Fault::Status(_, why) => why,
-            Fault::Lost(why) => format!("no member of the engine answers: {why}"),
-            Fault::TooLong => "an answer is too long".into(),
-        })
-    }
-
-    /// All keys from one up to another, at one revision.
-    ///
-    /// # Errors
-    /// That no member answers, or what it answers instead.
-    pub fn keys(&self, from: &[u8], to: &[u8]) -> Result<Vec<Pair>, String> {
-        let runtime = Builder::new_current_thread().enable_all().build().map_err(|error| error.to_string())?;
-        let client = Client::new(self.clone());
-        runtime.block_on(async {
-            let (mut found, mut from, mut at, mut tries) = (Vec::new(), from.to_vec(), 0, 0);
-            loop {
-                match client.page(from.clone(), to.to_vec(), at).await {
-                    Ok((_, Answer::Page { revision, pairs, is_more })) => {
-                        at = if at == 0 { revision } else { at };
-                        found.extend(pairs);
-                        match found.last().filter(|_| is_more) {
-                            Some(last) => from = [&last.key[..], &[0]].concat(),
-                            None => return Ok(found),
-                        }
-                    }
-                    Err(Fault::Status(_, why)) => return Err(why),
-                    _ if tries < 2 * self.members.len() => tries += 1,
-                    _ => return Err("no member of the engine answers".into()),
-                }
-            }
-        })
     }
 }
 
@@ -264,7 +185,7 @@ impl Asks {
 }
 
 impl Client {
-    fn new(etcd: Etcd) -> Client {
+    pub fn new(etcd: Etcd) -> Client {
         Client { etcd, open: tokio::sync::Mutex::new((0, None)), pages: Pages::new() }
     }
 
@@ -293,7 +214,7 @@ impl Client {
         }
     }
 
-    async fn ask<Q: Message, R: Message + Default>(&self, path: &str, question: &Q) -> Result<R, Fault> {
+    pub async fn ask<Q: Message, R: Message + Default>(&self, path: &str, question: &Q) -> Result<R, Fault> {
         self.ask_for(path, question, usize::MAX, PATIENCE).await
     }
 
@@ -361,17 +282,23 @@ impl Client {
             let (engine, revision) = header(&done.header);
             return Ok((engine, Answer::Put { revision, is_done: true }));
         }
+        self.put_new(key, vec![put]).await
+    }
+
+    /// Puts keys in one transaction, where a key is new.
+    pub async fn put_new(&self, key: Bytes, puts: Vec<PutRequest>) -> Told {
         let compare = vec![Compare { key, target: Some(Target::Version(0)) }];
-        let question = TxnRequest { compare, success: vec![RequestOp { op: Some(Op::Put(put)) }] };
-        let done: TxnResponse = self.ask("/etcdserverpb.KV/Txn", &question).await?;
+        let success = puts.into_iter().map(|put| RequestOp { op: Some(Op::Put(put)) }).collect();
+        let done: TxnResponse = self.ask("/etcdserverpb.KV/Txn", &TxnRequest { compare, success }).await?;
         let (engine, revision) = header(&done.header);
         Ok((engine, Answer::Put { revision, is_done: done.succeeded }))
     }
 
     /// A page, of as many keys as have few enough bytes.
-    async fn page(&self, from: Vec<u8>, to: Vec<u8>, at: u64) -> Told {
+    pub async fn page(&self, from: Vec<u8>, to: Vec<u8>, at: u64) -> Told {
         let _turn = self.pages.turn.lock().await;
-        let mut question = RangeRequest { key: from.into(), range_end: to.into(), limit: 0, revision: at as i64 };
+        let mut question =
+            RangeRequest { key: from.into(), range_end: to.into(), revision: at as i64, ..RangeRequest::default() };
         loop {
             question.limit = self.pages.limit.load(Ordering::Relaxed);
             let most = if question.limit == 1 { usize::MAX } else { BYTES };

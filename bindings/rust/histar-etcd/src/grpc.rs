@@ -1,14 +1,12 @@
 //! gRPC over HTTP/2, as much of it as etcd needs: calls with one answer, and streams of answers.
+use crate::tls::Tls;
 use bytes::{Buf, BufMut, Bytes, BytesMut};
 use h2::client::SendRequest;
 use h2::{RecvStream, SendStream};
 use http::{HeaderMap, Method, Request, Version};
 use prost::Message;
-use std::sync::Arc;
 use tokio::io::{AsyncRead, AsyncWrite};
 use tokio::net::TcpStream;
-use tokio_rustls::rustls::{ClientConfig, ServerName};
-use tokio_rustls::TlsConnector;
 
 /// Why a call has no answer.
 #[derive(Debug)]
@@ -75,19 +73,17 @@ async fn more(body: &mut RecvStream, buffer: &mut BytesMut) -> Result<bool, Faul
 }
 
 impl Channel {
-    /// Connects to a member, `HOST:PORT`; with a configuration by TLS.
-    pub async fn connect(address: &str, tls: Option<Arc<ClientConfig>>) -> Result<Channel, Fault> {
+    /// Connects to a member, `HOST:PORT`, an address of IPv6 in brackets; by TLS where that is given.
+    pub async fn connect(address: &str, tls: Option<Tls>) -> Result<Channel, Fault> {
         let tcp = TcpStream::connect(address).await?;
         tcp.set_nodelay(true)?;
         match tls {
             None => Channel::over(tcp, address, "http").await,
-            Some(config) => {
+            Some(tls) => {
                 let host = address.rsplit_once(':').map_or(address, |(host, _)| host);
-                if host.parse::<std::net::IpAddr>().is_ok() {
-                    return Err(Fault::Lost("by TLS a member is reached by its name, not by its address".into()));
-                }
-                let tls = TlsConnector::from(config).connect(ServerName::try_from(host)?, tcp).await?;
-                Channel::over(tls, address, "https").await
+                let host = host.trim_start_matches('[').trim_end_matches(']');
+                let stream = tls.connect(host, tcp).await.map_err(Fault::Lost)?;
+                Channel::over(stream, address, "https").await
             }
         }
     }

@@ -2,9 +2,13 @@
 //!
 //! docs/CLUSTER.md of the repository has how three machines are set up, and what their operator does at a fault.
 mod engine;
-mod grpc;
+#[doc(hidden)] // (for the examples)
+pub mod grpc;
+mod operate;
 mod tls;
-mod wire;
+#[doc(hidden)]
+pub mod wire;
 
-pub use engine::{Etcd, Member};
-pub use tls::{tls, Files};
+pub use engine::Etcd;
+pub use operate::{Member, Unanswered};
+pub use tls::{tls, Files, Tls, TlsFault};

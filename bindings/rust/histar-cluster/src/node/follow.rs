@@ -25,24 +25,31 @@ impl<M: Machine> Node<M> {
             let value = self.options.boot::<M>().bytes();
             return self.ask(Purpose::Boot, Request::Put { key, value, lease: None, only_new: true });
         };
-        let voids = found.iter().filter_map(|pair| self.keys.read_void(&pair.key)).collect();
-        match self.begins(begun, voids) {
+        let (begun, voids) = (begun.clone(), found.iter().filter_map(|pair| self.keys.read_void(&pair.key)).collect());
+        match Boot::read(&begun.value) {
+            Ok(Boot { from: Some(_), .. }) => self.read_key(self.keys.start(), 0, Then::Start { begun, voids }),
+            _ => self.begins(begun, voids, None),
+        }
+    }
+
+    /// Begins in the state that the cluster was begun in, and plays the log from there.
+    pub(super) fn begins(&mut self, begun: Pair, voids: BTreeSet<u64>, start: Option<&[u8]>) {
+        match self.first_state(&begun, voids, start) {
             Err(fault) => self.stop(fault),
             Ok(state) => {
-                self.begun = Some(begun.clone());
+                self.begun = Some(begun);
                 self.begin(state);
                 self.load();
             }
         }
     }
 
-    /// The state that the cluster was begun in.
-    fn begins(&self, begun: &Pair, voids: BTreeSet<u64>) -> Result<State<M>, Fault> {
+    fn first_state(&self, begun: &Pair, voids: BTreeSet<u64>, start: Option<&[u8]>) -> Result<State<M>, Fault> {
         let boot = Boot::read(&begun.value)?;
         if boot.limits != self.options.limits {
             return Err(Fault::OtherBoot);
         }
-        State::new(self.keys.clone(), boot, voids)
+        State::new(self.keys.clone(), boot, voids, start)
     }
 
     fn begin(&mut self, state: State<M>) {

@@ -70,6 +70,9 @@ impl<M: Machine> Node<M> {
 
     fn fences_seen(&mut self, open: &BTreeSet<u64>, fences: &[(Name, &Pair)]) {
         let standing: BTreeSet<u64> = fences.iter().map(|(_, fence)| fence.created).collect();
+        let own = self.writer.incarnation().map(|of| of.number);
+        let is_namesake = |(node, fence): &&(Name, &Pair)| *node == self.options.node && Some(fence.created) != own;
+        self.namesakes = fences.iter().filter(is_namesake).count();
         for incarnation in open.difference(&standing) {
             let key = self.keys.close(&self.options.node, *incarnation);
             self.ask_put(Purpose::Surely, key, Vec::new(), None);
@@ -100,6 +103,12 @@ impl<M: Machine> Node<M> {
         self.agreements.add(node, entries, digest);
         self.agreements.forget_old();
         self.compare(entries);
+    }
+
+    /// The greatest number of entries after which another node agrees with this one.
+    pub(super) fn agreed(&self) -> Option<u64> {
+        let is_agreed = |(entries, mark): &(&u64, &Mark)| self.agreements.is_agreed(**entries, &mark.digest);
+        self.marks.iter().rev().find(is_agreed).map(|(entries, _)| *entries)
     }
 
     /// Whether the node came by a mark of this digest.

@@ -16,6 +16,8 @@ pub(super) struct Agreed {
 pub(super) enum Then {
     /// What the cluster was begun with.
     Boot,
+    /// The state that it begins at, where that is another cluster's; with what it was begun with, and what is void.
+    Start { begun: Pair, voids: BTreeSet<u64> },
     /// On which states nodes agree.
     Agreements,
     /// A checkpoint after so many entries, of this digest. The others are tried where it is none.
@@ -84,6 +86,7 @@ impl<M: Machine> Node<M> {
     fn is_read(&mut self, then: Then, at: u64, found: Vec<Pair>) {
         match then {
             Then::Boot => self.boots(&found),
+            Then::Start { begun, voids } => self.begins(begun, voids, found.first().map(|pair| &pair.value[..])),
             Then::Agreements => self.find_checkpoint(at, found),
             Then::Checkpoint { entries, digest, agreed } => self.begin_at(at, entries, digest, found, agreed),
             Then::Log { wanted } => self.play_pages(at, found, wanted),
@@ -96,7 +99,7 @@ impl<M: Machine> Node<M> {
     /// What was to be read is forgotten at that revision: it is read anew.
     pub(super) fn forgotten(&mut self, pages: &Pages) {
         match pages.then {
-            Then::Boot => self.look_at_boot(),
+            Then::Boot | Then::Start { .. } => self.look_at_boot(),
             Then::Agreements | Then::Checkpoint { .. } | Then::Log { .. } => self.load(),
             Then::Begun(_) | Then::Stored(_) | Then::Own(_) => {}
         }

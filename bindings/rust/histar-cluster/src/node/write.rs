@@ -1,8 +1,8 @@
 //! Registering, and putting entries: each under a key of its own, of the same bytes however often it is tried.
-use super::{Node, Purpose};
+use super::{Leaving, Node, Purpose};
 use crate::engine::Request;
 use crate::entry::{self, Head, Item, Short};
-use crate::keys::{Incarnation, Lane};
+use crate::keys::{after, Incarnation, Key, Lane};
 use crate::receipt::{Note, Receipt, Told};
 use crate::sha256::sha256;
 use crate::spelling::put_number;
@@ -38,6 +38,7 @@ pub(super) enum Writer {
     Open {
         of: Incarnation,
         lease: u64,
+        fence: Key,
         lanes: Vec<OwnLane>,
         // Who waits for an entry: the tickets, each with the count of its items.
         waits: BTreeMap<(usize, u64), Vec<(u64, usize)>>,
@@ -92,6 +93,10 @@ impl<M: Machine> Node<M> {
         if items.len() > MOST_ITEMS {
             return false;
         }
+        if self.leaving != Leaving::No {
+            self.tell(ticket, Receipt::NeverMade);
+            return true;
+        }
         let mut bytes = Vec::new();
         items.iter().for_each(|item| entry::add::<M>(&mut bytes, item));
         self.queue.push_back(Queued { ticket, count: items.len(), bytes });
@@ -100,18 +105,22 @@ impl<M: Machine> Node<M> {
     }
 
     pub(super) fn register_unless_registered(&mut self) {
-        if matches!(self.writer, Writer::None) {
+        if matches!(self.writer, Writer::None) && self.leaving == Leaving::No {
             self.writer = Writer::Registers;
             self.ask(Purpose::Lease, Request::Lease);
         }
     }
 
     pub(super) fn leased(&mut self, lease: u64) {
+        if self.leaving != Leaving::No {
+            self.writer = Writer::None;
+            return;
+        }
         self.registrations += 1;
         let any = self.options.any.wrapping_add(self.registrations);
         let key = self.keys.fence(&self.options.node, any);
         self.ask(
-            Purpose::Fence { lease },
+            Purpose::Fence { lease, fence: key.clone() },
             Request::Put { key, value: self.progress(), lease: Some(lease), only_new: true },
         );
     }
@@ -123,12 +132,15 @@ impl<M: Machine> Node<M> {
         value
     }
 
-    pub(super) fn fenced(&mut self, lease: u64, revision: u64, is_done: bool) {
+    pub(super) fn fenced(&mut self, lease: u64, fence: Key, revision: u64, is_done: bool) {
         self.writer = Writer::None;
+        if is_done && self.leaving != Leaving::No {
+            return self.give_back(fence); // (no entry was put)
+        }
         if is_done {
             let of = Incarnation { node: self.options.node.clone(), number: revision };
             let lanes = (0..self.options.lanes.max(1)).map(|_| OwnLane::default()).collect();
-            self.writer = Writer::Open { of, lease, lanes, waits: BTreeMap::new() };
+            self.writer = Writer::Open { of, lease, fence, lanes, waits: BTreeMap::new() };
             self.put_entry(0); // (with what waits, if anything: from its place on the incarnation is known)
             self.put_entries();
         }
@@ -203,12 +215,54 @@ impl<M: Machine> Node<M> {
 
     /// Ends the incarnation. Who waits for an entry is told so.
     pub(super) fn end_with(&mut self, receipt: impl Fn(usize, u64) -> Receipt<M::Reply>) {
-        if let Writer::Open { waits, .. } = std::mem::replace(&mut self.writer, Writer::None) {
+        if let Writer::Open { waits, fence, .. } = std::mem::replace(&mut self.writer, Writer::None) {
             for ((lane, number), tickets) in waits {
                 tickets.into_iter().for_each(|(ticket, _)| self.tell(ticket, receipt(lane, number)));
             }
-            self.register_unless_registered();
+            match self.leaving {
+                Leaving::No => self.register_unless_registered(),
+                _ => self.give_back(fence),
+            }
         }
+    }
+
+    /// Ends the node's incarnation in order. What is in no entry yet is never made, nor what is submitted from here on; what is on its way is told of.
+    /// Then the incarnation is closed, as another node closes it, and its fence is given back.
+    pub fn leave(&mut self) {
+        if self.leaving == Leaving::No {
+            self.leaving = Leaving::Waits;
+            for queued in std::mem::take(&mut self.queue) {
+                self.tell(queued.ticket, Receipt::NeverMade);
+            }
+            self.leave_on();
+        }
+    }
+
+    /// Whether the incarnation is closed, and the fence given back. The node plays on.
+    pub fn has_left(&self) -> bool {
+        self.leaving == Leaving::HasLeft
+    }
+
+    /// Closes the incarnation once none of its entries is on its way: one of them has counted then, without which none is closed.
+    pub(super) fn leave_on(&mut self) {
+        let is_fencing = || self.asked.values().any(|asked| matches!(asked.purpose, Purpose::Fence { .. }));
+        match &self.writer {
+            _ if self.leaving != Leaving::Waits => {}
+            Writer::Open { of, waits, .. } if waits.is_empty() => {
+                let key = self.keys.close(&self.options.node, of.number);
+                self.leaving = Leaving::Closes;
+                self.ask_put(Purpose::Surely, key, Vec::new(), None);
+            }
+            Writer::Open { .. } => {}
+            Writer::None | Writer::Registers if is_fencing() => {}
+            Writer::None | Writer::Registers => self.leaving = Leaving::HasLeft,
+        }
+    }
+
+    fn give_back(&mut self, fence: Key) {
+        self.leaving = Leaving::GivesBack;
+        let to = after(fence.clone());
+        self.ask(Purpose::Leave, Request::Drop { from: fence, to });
     }
 
     /// The node began at a checkpoint, which has the last numbers of its lanes, and whether its incarnation is closed.

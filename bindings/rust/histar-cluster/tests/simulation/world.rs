@@ -68,6 +68,10 @@ struct Process<P: Player> {
     paused: u64,
     /// It is away until the others have gone on past this place.
     left: Option<u64>,
+    /// The incarnation that it had when it was told to end.
+    incarnation: Option<u64>,
+    /// It was told to give its fence back.
+    is_ending: bool,
     inbox: Vec<(u64, u64, Answer)>,
     watch: Option<Watch>,
     /// What was submitted under a ticket.
@@ -110,6 +114,8 @@ pub struct World<P: Player> {
     random: Random,
     /// Whether a node has memory is chosen apart, so that all else of a seed is the same with it and without.
     memory: Random,
+    /// The same of whether a node is told to end.
+    ending: Random,
     store: Store,
     sent: Vec<Sent>,
     /// Requests that arrive once so many steps were done.
@@ -155,6 +161,7 @@ impl<P: Player> World<P> {
         let mut world = World {
             random: Random(seed),
             memory: Random(!seed),
+            ending: Random(seed ^ 0x5555_5555),
             store: Store::new(),
             sent: Vec::new(),
             held: BTreeMap::new(),
@@ -221,6 +228,8 @@ impl<P: Player> World<P> {
             start: self.starts,
             paused: 0,
             left: None,
+            incarnation: None,
+            is_ending: false,
             inbox: Vec::new(),
             watch: None,
             waiting: BTreeMap::new(),
@@ -274,6 +283,8 @@ impl<P: Player> World<P> {
             self.restart(process);
         } else if self.fault(80) {
             self.pause(process);
+        } else if self.ending.hits(40) && !self.is_quiet {
+            self.ends(process);
         } else if self.aimed(AWAY) {
             self.leave(process);
         } else if self.fault(150) {
@@ -320,6 +331,33 @@ impl<P: Player> World<P> {
             let fences = |end: &str| format!("/sim/fence/{node}{end}").into_bytes();
             self.store.end_leases_of(&fences("/"), &fences("0"));
         }
+    }
+
+    /// A node is told to give its fence back, with what waits for its receipt, and started anew once it has.
+    fn ends(&mut self, process: usize) {
+        self.counts.faults += 1;
+        self.submit(process);
+        let it = &mut self.processes[process];
+        // (the fence of one that was ended by another ends with its lease)
+        it.incarnation = it.node.status().and_then(|status| status.incarnation);
+        it.is_ending = true;
+        it.node.leave();
+        self.submit(process);
+        self.look(process, 0);
+    }
+
+    /// What has left has no fence of the incarnation that it had, and nobody waits.
+    fn has_ended(&mut self, process: usize) {
+        let it = &self.processes[process];
+        let (incarnation, waits) = (it.incarnation, !it.waiting.is_empty());
+        let fences = self.store.range(b"/sim/fence/", b"/sim/fence0", self.store.revision);
+        if fences.iter().any(|pair| Some(pair.created) == incarnation) {
+            self.breaks("a node has left and has a fence");
+        }
+        if waits {
+            self.breaks("a node has left and a caller waits");
+        }
+        self.restart(process);
     }
 
     fn restart(&mut self, process: usize) {
@@ -429,13 +467,13 @@ impl<P: Player> World<P> {
         let Some(liar) = &mut self.liar else { return };
         let (key, value) = liar.call::<P>(self.threads[EVIL][0], &played, self.store.revision);
         self.store.transact(&[(key.clone(), value)]);
-        let way = self.random.below(5);
+        let way = self.random.below(6);
         let stays = if way < 2 {
             // (what it answered no other has heard of, and it goes on)
             self.hurries(&[first]);
             self.says_all(&[first]);
             vec![first]
-        } else if way == 2 {
+        } else if way < 4 {
             self.settle(LONG);
             self.says_all(&going);
             Vec::new()
@@ -604,6 +642,10 @@ impl<P: Player> World<P> {
         let before = reached.map_or(0, |note| note.place);
         self.look(process, before);
         let registered = self.processes[process].node.status().and_then(|status| status.incarnation);
+        let node = &self.processes[process].node;
+        if node.has_left() && node.fault().is_none() {
+            return self.has_ended(process); // (who waits at a node that has stopped is told nothing)
+        }
         if registered.is_some() && registered != incarnation && self.aimed(NEW) {
             self.leave(process);
         }
@@ -826,6 +868,9 @@ impl<P: Player> World<P> {
             return;
         }
         self.counts.stopped += self.processes.iter().filter(|it| it.node.fault().is_some()).count() as u64;
+        if self.processes.iter().any(|it| it.node.fault().is_none() && it.is_ending) {
+            self.breaks("a node keeps its fence that is to give it back");
+        }
         let waits = |it: &Process<P>| it.node.fault().is_none() && !it.waiting.is_empty();
         if self.processes.iter().any(waits) {
             self.breaks("a caller is told nothing");
