@@ -1,5 +1,5 @@
 -- What is known of the lines of a script.
-use Rattle.std.specs.Prelude.{ℕ, List, [], ◌∷◌, Option, Some, None, Bool, false, not, ◌&&◌, ◌||◌, nat_lt, if◌then◌else◌}
+use Rattle.std.specs.Prelude.{ℕ, List, [], ◌∷◌, ◌++◌, Option, Some, None, Bool, false, not, ◌&&◌, ◌||◌, nat_lt, fold, if◌then◌else◌}
 use Rattle.call_text.specs.Script.{is_bound, known_names}
 use Rattle.call_text.specs.declared.phases.Line.{Line}
 use Rattle.check_text.specs.Binders.{binder, is_used}
@@ -28,10 +28,13 @@ knows lines to m =
     (not m.category && is_bound m.name known_names)
     || is_given lines to m.category (binder m.name lines)
 
--- the first of these names that is not known to the line
-abbrev pub first_unknown : List Outline → Outline → List Mention → Option Mention
-first_unknown lines to [] = None
-first_unknown lines to (m ∷ more) = if knows lines to m then first_unknown lines to more else Some m
+-- one more name, where it is not known to the line and not among those that were found
+abbrev pub with_unknown : List Outline → Outline → List Mention → Mention → List Mention
+with_unknown lines to found m = if knows lines to m || is_used m.name found then found else found ++ (m ∷ [])
+
+-- the names that are not known to the line, each once
+abbrev pub unknown : List Outline → Outline → List Mention → List Mention
+unknown lines to mentions = fold (with_unknown lines to) [] mentions
 
 -- an object is bound in an earlier phase
 abbrev pub is_earlier : Outline → Option Outline → Bool

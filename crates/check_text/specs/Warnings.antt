@@ -1,11 +1,11 @@
 -- Warnings.
-use Rattle.std.specs.Prelude.{ℕ, suc, List, [], ◌∷◌, ◌++◌, Option, Some, None, option_map, if◌then◌else◌}
+use Rattle.std.specs.Prelude.{ℕ, suc, List, [], ◌∷◌, ◌++◌, map, Option, Some, None, option_map, if◌then◌else◌}
 use Rattle.std.specs.List.{flat_map}
 use Rattle.text_words.specs.declared.spoken_calls.args.Arg.{Arg}
 use Rattle.call_text.specs.declared.phases.Line.{Line}
 use Rattle.check_text.specs.Mentions.{mentions_in}
 use Rattle.check_text.specs.Outlines.{outline_of}
-use Rattle.check_text.specs.Surveys.{Surveyed, survey_of, knows_worker, first_unknown, unused}
+use Rattle.check_text.specs.Surveys.{Surveyed, survey_of, knows_worker, unknown, unused}
 use Rattle.check_text.specs.declared.script_checks.mentions.Mention.{Mention}
 use Rattle.check_text.specs.declared.script_checks.outlines.Outline.{Outline}
 use Rattle.check_text.specs.declared.script_checks.warnings.Warned.{Warned}
@@ -17,17 +17,20 @@ abbrev pub warned : ℕ → Option Warning → List Warned
 warned line None = []
 warned line (Some warning) = record { line = line; warning = warning } ∷ []
 
--- the line's worker is not bound before its phase, or else the first name that it does not know
-abbrev pub unbound_of : List Outline → Outline → List Mention → Option Warning
-unbound_of lines line mentions =
-    if knows_worker lines line then option_map Unbound (first_unknown lines line mentions)
-    else Some (NoWorker line.worker)
+-- the line's worker is not bound before its phase
+abbrev pub no_worker : List Outline → Outline → Option Warning
+no_worker lines line = if knows_worker lines line then None else Some (NoWorker line.worker)
 
--- the name that the line binds is used by no line; and the above
+-- the line uses a name that it does not know
+abbrev pub unbound : ℕ → Mention → Warned
+unbound line m = record { line = line; warning = Unbound m }
+
+-- the name that the line binds is used by no line; the above of its worker; and of each name once
 abbrev pub line_warnings : Surveyed → Outline → List Arg → List Warned
 line_warnings s line args =
     warned line.number (option_map Unused (unused s.mentions line))
-    ++ warned line.number (unbound_of s.outlines line (mentions_in args))
+    ++ (warned line.number (no_worker s.outlines line)
+    ++ map (unbound line.number) (unknown s.outlines line (mentions_in args)))
 
 -- the same of the lines of a phase
 abbrev pub phase_warnings : Surveyed → ℕ → List Line → List Warned

@@ -1,8 +1,7 @@
 //! The form of a call, which is told where an argument of it is missing.
-ghost use Rattle.std.specs.Prelude.{◌≡◌, ◌++◌, OnOk};
+ghost use Rattle.std.specs.Prelude.{◌≡◌, ◌++◌, IfOk, OnOk};
 ghost use Rattle.std.specs.List.{flat_map};
 ghost use Rattle.check_text.specs.Forms.{call_of, call_word, form_hint, form_of, kind_word, past};
-ghost use Rattle.std.specs.Prelude.{IfOk};
 
 use crate::hints::first_within;
 use crate::line_faults::Expected;

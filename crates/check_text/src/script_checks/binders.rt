@@ -5,6 +5,7 @@ ghost use Rattle.indexmap.specs.IndexSet.{contains};
 ghost use Rattle.text_words.specs.contracts.names.NamePartialEq.TheImpl.{eq-value};
 ghost use Rattle.check_text.specs.Binders.{binder, is_used};
 
+use crate::script_checks::givers::is_one;
 use crate::script_checks::mentions::Mention;
 use crate::script_checks::outlines::Outline;
 use indexmap::{IndexMap, IndexSet};
@@ -36,4 +37,16 @@ pub fn used_of(alloc: Global, mentions: &[Mention]) -> Result<IndexSet<Name>, Al
         used.insert(mention.name)?;
     }
     Ok(used)
+}
+
+/// Whether a name is among those that are used.
+pub fn is_used(name: &Name, mentions: &[Mention]) -> bool
+    ensures { result ≡ is_used name.now mentions.now }
+{
+    for mention in mentions {
+        if is_one(name, &mention.name) {
+            return true;
+        }
+    }
+    false
 }

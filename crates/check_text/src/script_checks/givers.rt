@@ -8,7 +8,7 @@ use crate::script_checks::outlines::Outline;
 use text_words::Name;
 
 /// Whether two names are one.
-fn is_one(one: &Name, other: &Name) -> bool
+pub fn is_one(one: &Name, other: &Name) -> bool
     ensures { result ≡ bytes_eq one.now other.now }
 {
     one.as_slice() == other.as_slice()

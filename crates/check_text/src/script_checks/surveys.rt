@@ -1,10 +1,11 @@
 //! What is known of the lines of a script.
-ghost use Rattle.std.specs.Prelude.{◌≡◌, IfOk};
+ghost use Rattle.std.specs.Prelude.{◌≡◌, IfOk, OnOk};
+ghost use Rattle.check_text.specs.Binders.{is_used};
 ghost use Rattle.check_text.specs.Outlines.{outlines_from};
 ghost use Rattle.check_text.specs.Mentions.{script_mentions};
-ghost use Rattle.check_text.specs.Surveys.{survey_of, knows, knows_worker, first_unknown, unused};
+ghost use Rattle.check_text.specs.Surveys.{survey_of, knows, knows_worker, with_unknown, unknown, unused};
 
-use crate::script_checks::binders::{binders_of, used_of};
+use crate::script_checks::binders::{binders_of, is_used, used_of};
 use crate::script_checks::givers::{gives, is_kind, is_known};
 use crate::script_checks::mentions::{Mention, put_script};
 use crate::script_checks::outlines::{Outline, put_outlines};
@@ -87,16 +88,36 @@ impl Survey {
         }
     }
 
-    /// The first of these names that no line gives to this one.
-    pub fn first_unknown(&self, line: &Outline, mentions: &[Mention]) -> Option<Mention>
-        ensures { result ≡ first_unknown self.now.outlines line.now mentions.now }
+    /// Adds a name to those that are found, where no line gives it to this one and it is not among them.
+    fn put_unknown(
+        &self,
+        found: &mut Vec<Mention>,
+        line: &Outline,
+        mention: &Mention,
+    ) -> Result<(), AllocError>
+        ensures { OnOk result (found.new.items ≡ with_unknown self.now.outlines line.now found.old.items mention.now) }
     {
-        for mention in mentions {
-            if !self.knows(line, mention) {
-                return Some(*mention);
-            }
+        if self.knows(line, mention) || is_used(&mention.name, found.as_slice()) {
+            return Ok(());
         }
-        None
+        found.push(*mention)?;
+        Ok(())
+    }
+
+    /// The names that no line gives to this one, each once.
+    pub fn unknown(
+        &self,
+        alloc: Global,
+        line: &Outline,
+        mentions: &[Mention],
+    ) -> Result<Vec<Mention>, AllocError>
+        ensures { IfOk result (λ found. found.items ≡ unknown self.now.outlines line.now mentions.now) }
+    {
+        let mut found = Vec::new(alloc);
+        for mention in mentions {
+            self.put_unknown(&mut found, line, mention)?;
+        }
+        Ok(found)
     }
 
     /// The name that the line binds, where no line uses it.

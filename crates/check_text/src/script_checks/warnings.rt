@@ -1,6 +1,6 @@
 //! Warnings.
-ghost use Rattle.std.specs.Prelude.{◌≡◌, ◌++◌, IfOk, OnOk};
-ghost use Rattle.check_text.specs.Warnings.{warned, unbound_of, line_warnings, phase_warnings, warnings_of};
+ghost use Rattle.std.specs.Prelude.{◌≡◌, ◌++◌, map, IfOk, OnOk};
+ghost use Rattle.check_text.specs.Warnings.{warned, no_worker, unbound, line_warnings, phase_warnings, warnings_of};
 
 use crate::script_checks::mentions::{Mention, put_mentions};
 use crate::script_checks::outlines::{Outline, outline_of};
@@ -17,7 +17,7 @@ pub enum Warning {
     Unused(Name),
     /// Its worker is not bound before its phase.
     NoWorker(Name),
-    /// It uses a name that no line before gives to it, as what stands there.
+    /// It uses a name that no line before gives to it, as what stands there. Of a line each such name is told once.
     Unbound(Mention),
 }
 
@@ -30,17 +30,14 @@ pub struct Warned {
     pub warning: Warning,
 }
 
-/// What is told of a line because its worker or a name that it uses is not given to it.
-fn unbound_of(survey: &Survey, line: &Outline, mentions: &[Mention]) -> Option<Warning>
-    ensures { result ≡ unbound_of survey.now.outlines line.now mentions.now }
+/// What is told of a line because its worker is not given to it.
+fn no_worker(survey: &Survey, line: &Outline) -> Option<Warning>
+    ensures { result ≡ no_worker survey.now.outlines line.now }
 {
-    if !survey.knows_worker(line) {
-        return Some(Warning::NoWorker(line.worker));
+    if survey.knows_worker(line) {
+        return None;
     }
-    match survey.first_unknown(line, mentions) {
-        Some(mention) => Some(Warning::Unbound(mention)),
-        None => None,
-    }
+    Some(Warning::NoWorker(line.worker))
 }
 
 /// Adds a warning of a line, where there is one.
@@ -48,6 +45,17 @@ fn put_warning(out: &mut Vec<Warned>, line: u32, warning: Option<Warning>) -> Re
     ensures { OnOk result (out.new.items ≡ out.old.items ++ warned line warning) }
 {
     if let Some(warning) = warning {
+        out.push(Warned { line, warning })?;
+    }
+    Ok(())
+}
+
+/// Adds a warning of a line for each of the names that are not given to it.
+fn put_unbound(out: &mut Vec<Warned>, line: u32, unknown: &[Mention]) -> Result<(), AllocError>
+    ensures { OnOk result (out.new.items ≡ out.old.items ++ map (unbound line) unknown.now) }
+{
+    for mention in unknown {
+        let warning = Warning::Unbound(*mention);
         out.push(Warned { line, warning })?;
     }
     Ok(())
@@ -70,11 +78,9 @@ fn put_line(
         None => None,
     };
     put_warning(out, line.number, unused)?;
-    put_warning(
-        out,
-        line.number,
-        unbound_of(survey, line, mentions.as_slice()),
-    )
+    put_warning(out, line.number, no_worker(survey, line))?;
+    let unknown = survey.unknown(alloc, line, mentions.as_slice())?;
+    put_unbound(out, line.number, unknown.as_slice())
 }
 
 /// Adds the warnings of the lines of a phase.
