@@ -6,11 +6,13 @@
 mod dialogue;
 mod run;
 mod show;
+mod tips;
 
 use check_text::{check_on, plain_on};
 use program_args::{CheckArgs, Verb, read_words, tell_answer, without_marks, words_of_show};
-use program_io::{Counted, DEFAULTS, Fault, Sink, open_input, words_of};
+use program_io::{Counted, DEFAULTS, Fault, Hushed, Piped, Sink, open_input, words_of};
 use script_runner::{NAME, histar_on};
+use std::cell::Cell;
 use std::io;
 use std::io::Write;
 use std::process::ExitCode;
@@ -39,11 +41,12 @@ fn check<S: Sink, E: Write>(
 
 fn main(rt: HostRuntime) -> ExitCode {
     let alloc = rt.alloc();
-    let mut out = Counted::new(io::writer(&rt));
-    let mut err = rt.stderr();
-    let words = match words_of(&rt) {
+    let is_gone = Cell::new(false);
+    let mut out = Counted::new(Piped::new(io::writer(&rt), &is_gone));
+    let mut err = Hushed::new(rt.stderr(), &is_gone);
+    let words = match words_of(&rt, NAME, &mut err) {
         Ok(words) => words,
-        Err(fault) => return ExitCode::from(fault.tell(NAME, &mut err)),
+        Err(status) => return ExitCode::from(status),
     };
     let Ok(typed) = without_marks(alloc, words.as_slice()) else {
         return ExitCode::from(Fault::Memory.tell(NAME, &mut err));
@@ -65,7 +68,11 @@ fn main(rt: HostRuntime) -> ExitCode {
         Ok(Verb::Run(args)) => run::run(&rt, alloc, &args, &mut out, &mut err),
         Ok(Verb::Check(args)) => check(&rt, &args, &mut out, &mut err),
         Ok(Verb::Try(limits)) => dialogue::ask(&rt, &limits, &mut out, &mut err),
-        Err(answer) => tell_answer(alloc, NAME, &answer, &mut out, &mut err),
+        Err(answer) => {
+            let status = tell_answer(alloc, NAME, &answer, &mut out, &mut err);
+            tips::tell_tip(alloc, typed.as_slice(), &answer, &mut err);
+            status
+        }
     };
     ExitCode::from(status)
 }

@@ -1,7 +1,7 @@
 //! `histar run`.
 use base::NoMemory;
 use program_args::RunArgs;
-use program_io::{Fault, Sink, beside, open_input, put_file};
+use program_io::{Fault, Sink, beside, is_input, open_input, put_file};
 use script_runner::{NAME, RunFiles, histar_on};
 use std::alloc::Global;
 use std::io::Write;
@@ -41,14 +41,28 @@ fn ended_with<R: Files>(
     put_at(rt, names, files.names.as_slice())
 }
 
-/// Plays a script. The answer is the status.
-pub fn run<R: Threads + Wait + Sync + Files, S: Sink, E: Write>(
+/// Whether the dump or the names would replace the script. If so, one line says it.
+fn replaces_script<R: Files + AllocGlobal, E: Write>(
+    rt: &R,
+    args: &RunArgs<'_>,
+    err: &mut E,
+) -> bool {
+    let inputs = [args.script];
+    is_input(rt, NAME, args.dump.unwrap_or(""), &inputs, err)
+        || is_input(rt, NAME, args.names.unwrap_or(""), &inputs, err)
+}
+
+/// Plays a script. The answer is the status: 2 where the dump or the names would replace the script.
+pub fn run<R: Threads + Wait + Sync + Files + AllocGlobal, S: Sink, E: Write>(
     rt: &R,
     alloc: Global,
     args: &RunArgs<'_>,
     out: &mut S,
     err: &mut E,
 ) -> u8 {
+    if replaces_script(rt, args, err) {
+        return 2;
+    }
     let mut script = match open_input(rt, NAME, args.script, err) {
         Ok(script) => script,
         Err(status) => return status,

@@ -1,10 +1,11 @@
 //! `histar show`: why a call or a read of a dump is answered as it is, the objects that the dump leads to, as a tree or a graph, its lines as
 //! JSON, and all of it as a page. What has a name is shown by it.
+use crate::tips::tell_flag;
 use base::{Category, ObjectId};
 use call_text::Named;
 use page_text::page_on;
 use program_args::{Colours, ShowArgs, View, read_show_words, tell_answer};
-use program_io::{Fault, Sink, beside, open_input, put_file};
+use program_io::{Fault, Sink, beside, is_input, open_input, put_file};
 use shown_dumps::dot::dot_on;
 use shown_dumps::json::json_on;
 use shown_dumps::states::{NAME, names_on};
@@ -47,7 +48,7 @@ fn names_at<E: Write>(rt: &HostRuntime, path: Option<&str>, err: &mut E) -> Resu
         return Ok(Vec::new(alloc));
     };
     let mut input = open_input(rt, NAME, path, err)?;
-    names_on(alloc, path, &mut input, err)
+    names_on(alloc, NAME, path, &mut input, err)
 }
 
 /// Writes the page of the dump that a reader gives to a file. The answer is the status.
@@ -120,6 +121,12 @@ fn show_input<S: Sink, E: Write>(rt: &HostRuntime, out: &mut S, err: &mut E) -> 
     why_on(rt.alloc(), &mut dump, None, &telling, out, err)
 }
 
+/// Whether a page would replace its dump or its names. If so, one line says it.
+fn replaces_input<E: Write>(rt: &HostRuntime, told: &ShowArgs<'_>, err: &mut E) -> bool {
+    let inputs = [told.dump, told.names.unwrap_or("")];
+    is_input(rt, NAME, told.out.unwrap_or(""), &inputs, err)
+}
+
 /// Shows what the words ask for, the first of them being `show`. The answer is the status.
 pub fn show<S: Sink, E: Write>(rt: &HostRuntime, words: &[&str], out: &mut S, err: &mut E) -> u8 {
     if words.len() <= 1 {
@@ -127,8 +134,15 @@ pub fn show<S: Sink, E: Write>(rt: &HostRuntime, words: &[&str], out: &mut S, er
     }
     let told = match read_show_words(rt.alloc(), words) {
         Ok(told) => told,
-        Err(answer) => return tell_answer(rt.alloc(), NAME, &answer, out, err),
+        Err(answer) => {
+            let status = tell_answer(rt.alloc(), NAME, &answer, out, err);
+            tell_flag(words, &answer, err);
+            return status;
+        }
     };
+    if replaces_input(rt, &told, err) {
+        return 2;
+    }
     let mut dump = match open_input(rt, NAME, told.dump, err) {
         Ok(dump) => dump,
         Err(status) => return status,

@@ -22,8 +22,9 @@ use anyhow::Result;
 use base::NoMemory;
 use happy_calls::look::Look;
 use program_args::{Verb, read_words, tell_answer};
-use program_io::{Counted, DEFAULTS, Fault, Sink, deliver, open_input, words_of};
+use program_io::{Counted, DEFAULTS, Fault, Hushed, Sink, deliver, open_input, words_of};
 use std::alloc::Global;
+use std::cell::Cell;
 use std::io;
 use std::io::Write;
 use std::process::ExitCode;
@@ -179,18 +180,20 @@ fn run_every(rt: &HostRuntime, words: &[String]) -> u8 {
     run_both(rt, rest, Some(every))
 }
 
-/// The words, asked for again where there was no memory.
-fn words_again(rt: &HostRuntime) -> Result<Vec<String>, Fault> {
-    match words_of(rt) {
-        Err(Fault::Memory) => words_of(rt),
-        told => told,
+/// The words, asked for again where there was no memory. The error is the status.
+fn words_again(rt: &HostRuntime) -> Result<Vec<String>, u8> {
+    let is_told = Cell::new(true);
+    let mut quiet = Hushed::new(rt.stderr(), &is_told);
+    match words_of(rt, NAME, &mut quiet) {
+        Ok(words) => Ok(words),
+        Err(_) => words_of(rt, NAME, &mut rt.stderr()),
     }
 }
 
 fn main(rt: HostRuntime) -> ExitCode {
     let words = match words_again(&rt) {
         Ok(words) => words,
-        Err(fault) => return ExitCode::from(fault.tell(NAME, &mut rt.stderr())),
+        Err(status) => return ExitCode::from(status),
     };
     let scene = word_at(words.as_slice(), 1);
     if !is_scene(scene) {

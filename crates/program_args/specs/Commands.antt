@@ -58,10 +58,12 @@ audit_command asks_flows =
     with_rule
     (with_rule
     (with_rule
+    (with_rule
     (with_rule (with_rule (versioned (codes "histar-audit")) (file_rule (codes "FILE"))) (option_rule (codes "migrate")))
     (number_rule (codes "from") asks_flows))
     (number_rule (codes "category") asks_flows))
-    (option_rule (codes "hidden"))
+    (option_rule (codes "hidden")))
+    (option_rule (codes "names"))
 
 -- ---- histar
 

@@ -8,7 +8,7 @@ ghost use Rattle.program_args.specs.Commands.{audit_command, file_rule, number_r
 ghost use Rattle.program_args.specs.Path.{path_of};
 ghost use Rattle.program_args.specs.Told.{IsAuditOf, audit_rows};
 
-use crate::args::{flow_of, needed_text_of, text_of};
+use crate::args::{flow_of, names, needed_text_of, text_of};
 use crate::versions::VERSION;
 use clap::error::ErrorKind;
 use clap::{Arg, ArgAction, ArgMatches, Command, Error, value_parser};
@@ -27,6 +27,8 @@ pub struct AuditArgs<'a> {
     pub migrate: Option<&'a str>,
     /// The label of an observer, as it was told, where the replies that hidden threads changed are asked for.
     pub hidden: Option<&'a str>,
+    /// The path of the names that objects and categories are told by.
+    pub names: Option<&'a str>,
 }
 
 /// The path of the dump.
@@ -81,7 +83,7 @@ fn from<'a>(alloc: Global, is_needed: bool) -> Arg<'a>
         alloc,
         "from",
         "ID",
-        "Of a clean dump, tell which objects flows from this one, 4 or #4, reach",
+        "Of a clean dump, tell which objects flows from this one, 4 or #4 as in the names, reach",
         is_needed,
     )
 }
@@ -95,7 +97,7 @@ fn category<'a>(alloc: Global, is_needed: bool) -> Arg<'a>
         alloc,
         "category",
         "N",
-        "The category, 1 or #1, outside of which these flows are: none goes on by an owner of it",
+        "The category, 1 or #1 as in the names, outside of which these flows are: none goes on by an owner of it",
         is_needed,
     )
 }
@@ -128,7 +130,11 @@ fn command<'a>(alloc: Global, asks_flows: bool) -> Result<Command<'a>, Error>
     let three = two.arg(from(alloc, asks_flows))?;
     let four = three.arg(category(alloc, asks_flows))?;
     let five = four.arg(hidden(alloc))?;
-    Ok(five)
+    let six = five.arg(names(
+        alloc,
+        "The names of the run, which histar run --names wrote",
+    ))?;
+    Ok(six)
 }
 
 /// What the words say, by what `clap` finds in them.
@@ -145,6 +151,7 @@ fn told_of<'a>(matches: &ArgMatches<'a>) -> AuditArgs<'a>
         dump: needed_text_of(matches, "FILE"),
         migrate,
         hidden: text_of(matches, "hidden"),
+        names: text_of(matches, "names"),
     }
 }
 
@@ -158,6 +165,8 @@ pub fn read_audit_words<'a, S: AsStr>(alloc: Global, words: &'a [S]) -> Result<A
         → IfOk result (λ told. told.options ≡ record { migrate = false; flow = None }) }
     ensures hidden { (path : List ℕ) → path_of (map S.text words.entry.now) ≡ Some path
         → IfOk result (λ told. is_some told.hidden ≡ false) }
+    ensures names { (path : List ℕ) → path_of (map S.text words.entry.now) ≡ Some path
+        → IfOk result (λ told. is_some told.names ≡ false) }
     ensures memory { (path : List ℕ) → path_of (map S.text words.entry.now) ≡ Some path
         → IfErr result (λ e. kind_of e ≡ ErrorKind.OutOfMemory) }
     ensures migrate { IfOk result (λ told. told.options.migrate ≡ is_some told.migrate) }

@@ -2,11 +2,13 @@
 ghost use Rattle.std.specs.Prelude.{◌≡◌, ◌++◌, None, IfOk, IfErr, codes};
 
 use crate::faults::Fault;
+use crate::inputs::source_of;
 use crate::saving::{Place, save};
 use crate::sinks::{Counted, deliver};
 use base::NoMemory;
 use std::alloc::Global;
 use std::fs::{File, OpenFile};
+use std::io::Write;
 use std::rt::Files;
 use std::{fs, io};
 
@@ -76,6 +78,37 @@ impl<'a, R: Files> Place for OnDisk<'a, R> {
         let folder = written(File::open(self.rt, folder_of(self.path)))?;
         written(folder.sync_all())
     }
+}
+
+/// Whether both paths lead to one plain file.
+fn is_same<R: Files + AllocGlobal>(rt: &R, one: &str, other: &str) -> bool {
+    let Ok(one) = fs::canonicalize(rt, one) else {
+        return false;
+    };
+    let Ok(other) = fs::canonicalize(rt, other) else {
+        return false;
+    };
+    match fs::metadata(rt, one.as_path()) {
+        Ok(found) => found.is_file() && one.as_path() == other.as_path(),
+        Err(_) => false,
+    }
+}
+
+/// Whether a file that is to be written is one of a program's inputs, which it would replace. If so, one line says it.
+pub fn is_input<R: Files + AllocGlobal, E: Write>(
+    rt: &R,
+    program: &str,
+    path: &str,
+    inputs: &[&str],
+    err: &mut E,
+) -> bool {
+    for input in inputs {
+        if is_same(rt, path, source_of(input)) {
+            let _ = writeln!(err, "{program}: {path} is its input: it would be replaced");
+            return true;
+        }
+    }
+    false
 }
 
 /// Writes a file: whole or not at all, as `save` has it, where its path names a plain file, or nothing yet. A file `beside`

@@ -1,7 +1,7 @@
 //! Opening an input, and reading it whole.
 ghost use Rattle.std.specs.Prelude.{◌≡◌, ◌≢◌, IfErr, IfOk, IfSome};
 ghost use Rattle.std.specs.IoError.{error_kind};
-ghost use Rattle.program_io.specs.Faults.{input_fault_of, reason_of, status_of};
+ghost use Rattle.program_io.specs.Faults.{input_fault_of, reason_of, source_of, status_of};
 
 use crate::faults::Fault;
 use std::alloc::Global;
@@ -30,7 +30,15 @@ fn say_unread<E: Write>(program: &str, path: &str, why: &str, err: &mut E) -> u8
     Fault::Input.status()
 }
 
-/// Opens the file of an input. Where it can't be opened, or is a folder, one line says so, and the answer is the status.
+/// The path that is read for an input's path: `-` stands for the standard input.
+pub fn source_of(path: &str) -> &str
+    ensures { result.now ≡ source_of path.now }
+{
+    if path == "-" { "/dev/stdin" } else { path }
+}
+
+/// Opens the file of an input, or the standard input where its path is `-`. Where it can't be opened, or is a folder, one line says
+/// so, and the answer is the status.
 pub fn open_input<R: Files, E: Write>(
     rt: &R,
     program: &str,
@@ -39,12 +47,13 @@ pub fn open_input<R: Files, E: Write>(
 ) -> Result<R::File, u8>
     ensures { IfErr result (λ status. status ≡ status_of Fault.Input) }
 {
-    if let Ok(found) = fs::metadata(rt, path) {
+    let source = source_of(path);
+    if let Ok(found) = fs::metadata(rt, source) {
         if found.is_dir() {
             return Err(say_unread(program, path, "it is a folder", err));
         }
     }
-    match File::open(rt, path) {
+    match File::open(rt, source) {
         Ok(file) => Ok(file),
         Err(error) => Err(say_unread(program, path, reason(error.kind()), err)),
     }

@@ -9,14 +9,16 @@ mod faults;
 mod files;
 mod inputs;
 mod options;
+mod pipes;
 mod saving;
 mod sinks;
 mod words;
 
 pub use faults::Fault;
-pub use files::{beside, put_file};
+pub use files::{beside, is_input, put_file};
 pub use inputs::{bytes_of, input_fault, open_input};
 pub use options::{AUDIT_DEFAULTS, AuditOptions, DEFAULTS, Options};
+pub use pipes::{Hushed, Piped};
 pub use saving::{Place, save};
 pub use sinks::{Counted, PutFault, Sink, deliver, put};
 pub use words::words_of;

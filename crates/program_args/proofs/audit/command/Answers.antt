@@ -8,7 +8,9 @@ versioned = on_top (λ s. record s { has_version = true })
 
 pub returns-clause-app : goal.returns-clause-app
 returns-clause-app c =
-    c.in_ok-five.ensures.shape c.hidden.ensures.local
+    c.in_ok-six.ensures.shape c.names.ensures.local
+    ∙ ap₂ with_rule
+    (c.in_ok-five.ensures.shape c.hidden.ensures.local
     ∙ ap₂ with_rule
     (c.in_ok-four.ensures.shape c.category.ensures.local
     ∙ ap₂ with_rule
@@ -24,4 +26,5 @@ returns-clause-app c =
     c.migrated.ensures.rule)
     c.from.ensures.rule)
     c.category.ensures.rule)
-    c.hidden.ensures.rule
+    c.hidden.ensures.rule)
+    c.names.ensures.rule

@@ -27,13 +27,14 @@ audit = audit_command false
 abbrev top : Shape
 top = (built audit).top
 
--- what is found of the five arguments
+-- what is found of the six arguments
 pub record Values : Type 0 where
   file : Option Text
   migrate : Option Text
   «from» : Option Text
   category : Option Text
   hidden : Option Text
+  names : Option Text
 
 abbrev values_in : List Row → Values
 values_in rows = record {
@@ -42,6 +43,7 @@ values_in rows = record {
   «from» = first_of (codes "from") rows;
   category = first_of (codes "category") rows;
   hidden = first_of (codes "hidden") rows;
+  names = first_of (codes "names") rows;
 }
 
 abbrev found_in : List Text → Values
@@ -49,7 +51,7 @@ found_in words = values_in (matches_of audit words)
 
 -- a path alone
 abbrev alone : Option Text → Values
-alone path = record { file = path; migrate = None; «from» = None; category = None; hidden = None }
+alone path = record { file = path; migrate = None; «from» = None; category = None; hidden = None; names = None }
 
 is_plain : is_simple audit ≡ true
 unfolding clap_on_literals
@@ -152,6 +154,12 @@ hidden_told words told path is e =
     is_told (λ label. label.now) told.hidden (first_of (codes "hidden") (audit_rows words)) is.3
     ∙ ap (λ rows. is_some (first_of (codes "hidden") rows)) (named_rows words path e) ∙ ap (λ (v : Values). is_some v.hidden) (found words path e)
 
+names_told : (words : List Text) (told : AuditArgs) (path : Text) → IsAuditOf (audit_rows words) told → path_of words ≡ Some path
+    → is_some told.names ≡ false
+names_told words told path is e =
+    is_told (λ path. path.now) told.names (first_of (codes "names") (audit_rows words)) is.4
+    ∙ ap (λ rows. is_some (first_of (codes "names") rows)) (named_rows words path e) ∙ ap (λ (v : Values). is_some v.names) (found words path e)
+
 -- what the parses of a command are
 rows_are : (flows : Bool) (words : List Text) (command : Command) (matches : ArgMatches) → app_of command ≡ audit_command flows
     → is_simple (audit_command flows) ≡ true → HasMatchesOf (app_of command) words matches
@@ -225,6 +233,10 @@ pub returns-then-is_some-clause-hidden : goal.returns-then-is_some-clause-hidden
 returns-then-is_some-clause-hidden g c = λ path named.
     hidden_told (map g.S.AsStr.text c.args.words.now) c.told_of.result path (returns-then-is_some-clause-told g c) named
 
+pub returns-then-is_some-clause-names : goal.returns-then-is_some-clause-names
+returns-then-is_some-clause-names g c = λ path named.
+    names_told (map g.S.AsStr.text c.args.words.now) c.told_of.result path (returns-then-is_some-clause-told g c) named
+
 pub returns-clause-told : goal.returns-clause-told
 returns-clause-told g c =
     let words = map g.S.AsStr.text c.args.words.now in
@@ -245,3 +257,7 @@ returns-clause-alone g c = λ path named.
 pub returns-clause-hidden : goal.returns-clause-hidden
 returns-clause-hidden g c = λ path named.
     hidden_told (map g.S.AsStr.text c.args.words.now) c.told_of-2.result path (returns-clause-told g c) named
+
+pub returns-clause-names : goal.returns-clause-names
+returns-clause-names g c = λ path named.
+    names_told (map g.S.AsStr.text c.args.words.now) c.told_of-2.result path (returns-clause-told g c) named

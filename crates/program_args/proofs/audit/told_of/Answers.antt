@@ -9,4 +9,5 @@ returns-clause-told c = (
       (c.is_some.ensures ∙ is_told (λ path. path.now) c.text_of-migrate.result _ c.text_of-migrate.ensures) c.flow_of.ensures,
   c.text_of-migrate.ensures,
   c.text_of.ensures,
+  c.text_of-2.ensures,
 )
