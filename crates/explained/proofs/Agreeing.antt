@@ -29,12 +29,12 @@ three r f is None b c = refl
 
 pub agrees_where_none_fails : (k : comparison.Comparison) → agrees k ≡ none_fails (sides k)
 unfolding below visible shown below_join below_join_up above_floor
-agrees_where_none_fails (compared.Below a b) = two relation.Below below (λ _ _. refl) a b
-agrees_where_none_fails (compared.Visible a b) = two relation.Visible visible (λ _ _. refl) a b
-agrees_where_none_fails (compared.Shown a b) = two relation.Shown shown (λ _ _. refl) a b
-agrees_where_none_fails (compared.BelowJoin a b c) = three relation.BelowJoin below_join (λ _ _ _. refl) a b c
-agrees_where_none_fails (compared.BelowJoinUp a b c) = three relation.BelowJoinUp below_join_up (λ _ _ _. refl) a b c
-agrees_where_none_fails (compared.AboveFloor a b c) = three relation.AboveFloor above_floor (λ _ _ _. refl) a b c
+agrees_where_none_fails (compared.Below a b) = two relation.Below below (λ _ _. refl) a.label b.label
+agrees_where_none_fails (compared.Visible a b) = two relation.Visible visible (λ _ _. refl) a.label b.label
+agrees_where_none_fails (compared.Shown a b) = two relation.Shown shown (λ _ _. refl) a.label b.label
+agrees_where_none_fails (compared.BelowJoin a b c) = three relation.BelowJoin below_join (λ _ _ _. refl) a.label b.label c.label
+agrees_where_none_fails (compared.BelowJoinUp a b c) = three relation.BelowJoinUp below_join_up (λ _ _ _. refl) a.label b.label c.label
+agrees_where_none_fails (compared.AboveFloor a b c) = three relation.AboveFloor above_floor (λ _ _ _. refl) a.label b.label c.label
 
 exact_two : (r : Relation) (a b : Option LabelValue) → IfSome (of_two r a b)
     (λ x. IsExact x.left x.right (failing x.left x.right) (failing_rest x.left x.right))
@@ -51,9 +51,9 @@ exact_three r None b c = tt
 
 pub sides_are_exact : (k : comparison.Comparison) → IfSome (sides k)
     (λ x. IsExact x.left x.right (failing x.left x.right) (failing_rest x.left x.right))
-sides_are_exact (compared.Below a b) = exact_two relation.Below a b
-sides_are_exact (compared.Visible a b) = exact_two relation.Visible a b
-sides_are_exact (compared.Shown a b) = exact_two relation.Shown a b
-sides_are_exact (compared.BelowJoin a b c) = exact_three relation.BelowJoin a b c
-sides_are_exact (compared.BelowJoinUp a b c) = exact_three relation.BelowJoinUp a b c
-sides_are_exact (compared.AboveFloor a b c) = exact_three relation.AboveFloor a b c
+sides_are_exact (compared.Below a b) = exact_two relation.Below a.label b.label
+sides_are_exact (compared.Visible a b) = exact_two relation.Visible a.label b.label
+sides_are_exact (compared.Shown a b) = exact_two relation.Shown a.label b.label
+sides_are_exact (compared.BelowJoin a b c) = exact_three relation.BelowJoin a.label b.label c.label
+sides_are_exact (compared.BelowJoinUp a b c) = exact_three relation.BelowJoinUp a.label b.label c.label
+sides_are_exact (compared.AboveFloor a b c) = exact_three relation.AboveFloor a.label b.label c.label

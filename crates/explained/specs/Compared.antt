@@ -35,12 +35,12 @@ of_three r None b c = None
 
 -- those of a comparison, where its labels are there
 abbrev pub sides : comparison.Comparison → Option Sides
-sides (compared.Below a b) = of_two relation.Below a b
-sides (compared.Visible a b) = of_two relation.Visible a b
-sides (compared.Shown a b) = of_two relation.Shown a b
-sides (compared.BelowJoin a b c) = of_three relation.BelowJoin a b c
-sides (compared.BelowJoinUp a b c) = of_three relation.BelowJoinUp a b c
-sides (compared.AboveFloor a b c) = of_three relation.AboveFloor a b c
+sides (compared.Below a b) = of_two relation.Below a.label b.label
+sides (compared.Visible a b) = of_two relation.Visible a.label b.label
+sides (compared.Shown a b) = of_two relation.Shown a.label b.label
+sides (compared.BelowJoin a b c) = of_three relation.BelowJoin a.label b.label c.label
+sides (compared.BelowJoinUp a b c) = of_three relation.BelowJoinUp a.label b.label c.label
+sides (compared.AboveFloor a b c) = of_three relation.AboveFloor a.label b.label c.label
 
 -- the exceptions at which it fails, where its labels are there
 abbrev pub named_of : Option Sides → Option (List Failure)

@@ -13,12 +13,12 @@ use Rattle.explained.specs.declared.parts.Finding.{Finding}
 
 -- the comparison holds
 abbrev pub agrees : comparison.Comparison → Bool
-agrees (compared.Below a b) = both below a b
-agrees (compared.Visible a b) = both visible a b
-agrees (compared.Shown a b) = both shown a b
-agrees (compared.BelowJoin a b c) = all_three below_join a b c
-agrees (compared.BelowJoinUp a b c) = all_three below_join_up a b c
-agrees (compared.AboveFloor a b c) = all_three above_floor a b c
+agrees (compared.Below a b) = both below a.label b.label
+agrees (compared.Visible a b) = both visible a.label b.label
+agrees (compared.Shown a b) = both shown a.label b.label
+agrees (compared.BelowJoin a b c) = all_three below_join a.label b.label c.label
+agrees (compared.BelowJoinUp a b c) = all_three below_join_up a.label b.label c.label
+agrees (compared.AboveFloor a b c) = all_three above_floor a.label b.label c.label
 
 -- the part stands against the call
 abbrev pub is_against : part.Part → Bool
@@ -26,7 +26,7 @@ is_against (is.Fact told against) = against
 is_against (is.Compared labels) = not (agrees labels)
 is_against (is.AtLeast number least) = nat_lt number least
 is_against (is.AtMost number most) = nat_lt most number
-is_against (is.Sum used more most) = nat_lt most (used + more)
+is_against (is.Sum id used more most) = nat_lt most (used + more)
 is_against (is.Empty slot mapping) = is_some mapping
 is_against (is.Apart slot given mapping) = meets given mapping
 

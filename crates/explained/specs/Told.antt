@@ -1,7 +1,7 @@
 -- What is told of each condition of the table of calls: the parts by which it is decided.
 --
 -- A fact stands against the call where the condition refuses it. Of labels and numbers the values are
--- told. That the parts refuse exactly where the condition does is a law of Laws.
+-- told, and whose they are. That the parts refuse exactly where the condition does is a law of Laws.
 use Rattle.std.specs.Prelude.{ℕ, ◌+◌, ◌%◌, Bool, not, ◌||◌, nat_lt, List, [], ◌∷◌, ◌++◌, map, Option}
 use Rattle.std.specs.Prelude.{is_none, if◌then◌else◌, ℤ}
 use Rattle.base.specs.Sets.{may_read, may_write}
@@ -29,6 +29,20 @@ use Rattle.explained.specs.declared.parts.Comparison.TheVariants as compared
 use Rattle.explained.specs.declared.parts.Part as part
 use Rattle.explained.specs.declared.parts.Part.TheVariants as is
 use Rattle.explained.specs.declared.parts.Finding.{Finding}
+use Rattle.explained.specs.declared.parts.Role.{Role}
+use Rattle.explained.specs.declared.parts.Role.TheVariants as roles
+use Rattle.explained.specs.declared.parts.Side.{Side}
+
+-- a label, and whose it is
+abbrev pub side : Role → Option LabelValue → Side
+side role label = record { role = role; label = label }
+
+-- a label that the call gives, as it is stored
+abbrev pub given : RawLabel → Side
+given x = side roles.Given (stored x)
+
+abbrev pub given_clearance : RawLabel → Side
+given_clearance x = side roles.GivenClearance (stored x)
 
 -- parts that are asked only where a test says so
 abbrev pub asked : Bool → List part.Part → List part.Part
@@ -39,18 +53,19 @@ abbrev pub compared_by : comparison.Comparison → List part.Part
 compared_by labels = is.Compared labels ∷ []
 
 -- a label is at least one and at most another
-abbrev pub between_parts : Option LabelValue → Option LabelValue → Option LabelValue → List part.Part
+abbrev pub between_parts : Side → Side → Side → List part.Part
 between_parts low label high =
     is.Compared (compared.Below low label) ∷ is.Compared (compared.Below label high) ∷ []
 
 -- the five gate rules, in the order of `may_enter`
-abbrev pub gate_parts : Bearer → Bearer → Asked → List part.Part
-gate_parts thread gate asked =
-    is.Compared (compared.Below thread.label gate.clearance)
-    ∷ is.Compared (compared.Below thread.label asked.verify)
-    ∷ is.Compared (compared.AboveFloor thread.label gate.label asked.label)
-    ∷ is.Compared (compared.Below asked.label asked.clearance)
-    ∷ is.Compared (compared.BelowJoin asked.clearance thread.clearance gate.clearance) ∷ []
+abbrev pub gate_parts : ℕ → Bearer → Bearer → Asked → List part.Part
+gate_parts g thread gate asked =
+    is.Compared (compared.Below (side roles.Own thread.label) (side (roles.Gate g) gate.clearance))
+    ∷ is.Compared (compared.Below (side roles.Own thread.label) (side roles.Verified asked.verify))
+    ∷ is.Compared (compared.AboveFloor (side roles.Own thread.label) (side (roles.Object g) gate.label) (side roles.Given asked.label))
+    ∷ is.Compared (compared.Below (side roles.Given asked.label) (side roles.GivenClearance asked.clearance))
+    ∷ is.Compared (compared.BelowJoin (side roles.GivenClearance asked.clearance) (side roles.OwnClearance thread.clearance)
+    (side (roles.Gate g) gate.clearance)) ∷ []
 
 -- n is 1 to 64 bytes of one page, from a on
 abbrev pub shape_parts : ℕ → ℕ → List part.Part
@@ -75,11 +90,21 @@ module _ (s : State) (t : ℕ) where
   abbrev pub fact : Fact → Condition → List part.Part
   fact told c = is.Fact told (condition.refuses s t c) ∷ []
 
+  -- the label of the calling thread, its clearance, and the label of an object
+  abbrev pub own : Side
+  own = side roles.Own (label_at s t)
+
+  abbrev pub top : Side
+  top = side roles.OwnClearance (clearance_at s t)
+
+  abbrev pub of : ℕ → Side
+  of o = side (roles.Object o) (label_at s o)
+
   -- d is a live container, and the thread observes it
   abbrev pub access_parts : ℕ → List part.Part
   access_parts d =
       is.Fact facts.NoContainer (not (is_live_kind s kinds.Container d))
-      ∷ is.Compared (compared.Visible (label_at s d) (label_at s t)) ∷ []
+      ∷ is.Compared (compared.Visible (of d) own) ∷ []
 
   -- a raw label can be stored, and its categories were made
   abbrev pub label_parts : RawLabel → List part.Part
@@ -89,7 +114,7 @@ module _ (s : State) (t : ℕ) where
 
   -- q pages more are within d's quota
   abbrev pub sum_part : ℕ → ℕ → part.Part
-  sum_part d q = is.Sum (use_of s d) q (quota_at s d)
+  sum_part d q = is.Sum d (use_of s d) q (quota_at s d)
 
   -- a change of an object's quota has room: upwards in its container, downwards in itself
   abbrev pub room_parts : Entry → ℤ → List part.Part
@@ -108,21 +133,21 @@ module _ (s : State) (t : ℕ) where
   parts_of (condition.Root e) = fact facts.IsRoot (condition.Root e)
   parts_of (condition.NotOfKind k o) = fact (facts.NotOfKind k) (condition.NotOfKind k o)
   parts_of (condition.OfKind k o) = fact (facts.OfKind k) (condition.OfKind k o)
-  parts_of (condition.NotObserved o) = compared_by (compared.Visible (label_at s o) (label_at s t))
-  parts_of (condition.NotFlowing o) = compared_by (compared.Below (label_at s t) (label_at s o))
+  parts_of (condition.NotObserved o) = compared_by (compared.Visible (of o) own)
+  parts_of (condition.NotFlowing o) = compared_by (compared.Below own (of o))
   parts_of (condition.NotShown o) =
-      asked (is_kind_at s kinds.Thread o) (compared_by (compared.Shown (label_at s o) (label_at s t)))
+      asked (is_kind_at s kinds.Thread o) (compared_by (compared.Shown (of o) own))
   parts_of (condition.BadLabel x) = label_parts x
   parts_of (condition.BadOrStarred x) = label_parts x ++ is.Fact facts.HasStar (raw_has_star x) ∷ []
-  parts_of (condition.BelowThread x) = compared_by (compared.Below (label_at s t) (stored x))
-  parts_of (condition.OutOfRange x) = between_parts (label_at s t) (stored x) (clearance_at s t)
+  parts_of (condition.BelowThread x) = compared_by (compared.Below own (given x))
+  parts_of (condition.OutOfRange x) = between_parts own (given x) top
   parts_of (condition.OutOfClearance x y) =
-      between_parts (stored x) (stored y) (clearance_at s t)
+      between_parts (given x) (given_clearance y) top
   parts_of (condition.NotClearable y) =
-      is.Compared (compared.Below (label_at s t) (stored y))
-      ∷ is.Compared (compared.BelowJoinUp (stored y) (clearance_at s t) (label_at s t)) ∷ []
+      is.Compared (compared.Below own (given_clearance y))
+      ∷ is.Compared (compared.BelowJoinUp (given_clearance y) top own) ∷ []
   parts_of (condition.AboveClearance o) =
-      compared_by (compared.Below (label_at s o) (clearance_at s t))
+      compared_by (compared.Below (of o) top)
   parts_of (condition.Avoided k d) = fact facts.Avoided (condition.Avoided k d)
   parts_of (condition.KindAvoided d o) = fact facts.Avoided (condition.KindAvoided d o)
   parts_of (condition.Above n most) = is.AtMost n most ∷ []
@@ -146,7 +171,7 @@ module _ (s : State) (t : ℕ) where
   parts_of (condition.NotAllowed a right) =
       fact facts.RightsLacking (condition.NotAllowed a right)
   parts_of (condition.NotAdmitted g r q v) =
-      gate_parts (own_bearer s t) (gate_bearer s g) (asked_of_gate r q v)
+      gate_parts g (own_bearer s t) (gate_bearer s g) (asked_of_gate r q v)
   parts_of (condition.QueueFull o) = fact facts.QueueFull (condition.QueueFull o)
   parts_of (condition.QueueEmpty o) = fact facts.QueueEmpty (condition.QueueEmpty o)
   parts_of (condition.When b c) = asked b (parts_of c)

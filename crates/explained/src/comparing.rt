@@ -82,17 +82,44 @@ impl Comparison {
             ≡ rest_of (sides self.now)) }
     {
         match self {
-            Comparison::Below(a, b) => of_two(alloc, Relation::Below, a, b, meter),
-            Comparison::Visible(a, b) => of_two(alloc, Relation::Visible, a, b, meter),
-            Comparison::Shown(a, b) => of_two(alloc, Relation::Shown, a, b, meter),
+            Comparison::Below(a, b) => of_two(alloc, Relation::Below, &a.label, &b.label, meter),
+            Comparison::Visible(a, b) => of_two(
+                alloc,
+                Relation::Visible,
+                &a.label,
+                &b.label,
+                meter,
+            ),
+            Comparison::Shown(a, b) => of_two(alloc, Relation::Shown, &a.label, &b.label, meter),
             Comparison::BelowJoin(a, b, c) => {
-                of_three(alloc, Relation::BelowJoin, a, b, c, meter)
+                of_three(
+                    alloc,
+                    Relation::BelowJoin,
+                    &a.label,
+                    &b.label,
+                    &c.label,
+                    meter,
+                )
             }
             Comparison::BelowJoinUp(a, b, c) => {
-                of_three(alloc, Relation::BelowJoinUp, a, b, c, meter)
+                of_three(
+                    alloc,
+                    Relation::BelowJoinUp,
+                    &a.label,
+                    &b.label,
+                    &c.label,
+                    meter,
+                )
             }
             Comparison::AboveFloor(a, b, c) => {
-                of_three(alloc, Relation::AboveFloor, a, b, c, meter)
+                of_three(
+                    alloc,
+                    Relation::AboveFloor,
+                    &a.label,
+                    &b.label,
+                    &c.label,
+                    meter,
+                )
             }
         }
     }
@@ -102,17 +129,17 @@ impl Comparison {
         ensures { result ≡ agrees self.now }
     {
         match self {
-            Comparison::Below(a, b) => is_below(a.as_ref(), b.as_ref(), meter),
-            Comparison::Visible(a, b) => is_visible(a.as_ref(), b.as_ref(), meter),
-            Comparison::Shown(a, b) => is_shown(a.as_ref(), b.as_ref(), meter),
+            Comparison::Below(a, b) => is_below(a.label.as_ref(), b.label.as_ref(), meter),
+            Comparison::Visible(a, b) => is_visible(a.label.as_ref(), b.label.as_ref(), meter),
+            Comparison::Shown(a, b) => is_shown(a.label.as_ref(), b.label.as_ref(), meter),
             Comparison::BelowJoin(a, b, c) => {
-                is_below_join(a.as_ref(), b.as_ref(), c.as_ref(), meter)
+                is_below_join(a.label.as_ref(), b.label.as_ref(), c.label.as_ref(), meter)
             }
             Comparison::BelowJoinUp(a, b, c) => {
-                is_below_join_up(a.as_ref(), b.as_ref(), c.as_ref(), meter)
+                is_below_join_up(a.label.as_ref(), b.label.as_ref(), c.label.as_ref(), meter)
             }
             Comparison::AboveFloor(a, b, c) => {
-                is_above_floor(a.as_ref(), b.as_ref(), c.as_ref(), meter)
+                is_above_floor(a.label.as_ref(), b.label.as_ref(), c.label.as_ref(), meter)
             }
         }
     }
@@ -153,7 +180,7 @@ impl Part {
             Part::Compared(labels) => !labels.agrees(meter),
             Part::AtLeast(number, least) => *number < *least,
             Part::AtMost(number, most) => *most < *number,
-            Part::Sum(used, more, most) => is_over(*used, *more, *most),
+            Part::Sum(_, used, more, most) => is_over(*used, *more, *most),
             Part::Empty(_, mapping) => mapping.is_some(),
             Part::Apart(_, mapping, other) => is_met(mapping, other),
         }

@@ -9,14 +9,15 @@ ghost use Rattle.kernel_rules.specs.Conditions.{asked_of_gate, own_clearance, ow
 ghost use Rattle.kernel_rules.specs.State.{label_at, clearance_at};
 ghost use Rattle.plain_state.specs.StateOf.{state_of};
 ghost use Rattle.explained.specs.Ruled.{condition_of, right_of};
-ghost use Rattle.explained.specs.Told.{access_parts, apart_parts, asked, between_parts, gate_parts, label_parts};
+ghost use Rattle.explained.specs.Told.{access_parts, apart_parts, asked, between_parts, gate_parts, given, given_clearance, label_parts};
+ghost use Rattle.explained.specs.Told.{of, own, side, top};
 ghost use Rattle.explained.specs.Told.{mapping_parts, parts_of, room_parts, shape_parts, sum_part};
 ghost use Rattle.explained.specs.declared.parts.Comparison.TheVariants as compared;
 ghost use Rattle.explained.specs.declared.parts.Part.TheVariants as part;
 
 use crate::conditions::{Condition, Right};
 use crate::facts::Fact;
-use crate::parts::{Comparison, Part, Parts};
+use crate::parts::{Comparison, Part, Parts, Role, Side};
 use base::{Category, Kind, Level, Meter, NoMemory, ObjectId};
 use kernel_rules::{Entry, Mapping, Place, pages_down, pages_up};
 use label_lattice::label_rules::{Asked, Bearer, stored_of, with_category};
@@ -45,6 +46,49 @@ fn compared(alloc: Global, labels: Comparison) -> Result<Parts, NoMemory>
     one(alloc, Part::Compared(labels))
 }
 
+/// A label, and whose it is.
+fn side(role: Role, label: Option<Label>) -> Side
+    ensures { result ≡ side role label }
+{
+    Side { role, label }
+}
+
+/// The label of the calling thread.
+fn own(state: &PlainState, thread: ObjectId) -> Side
+    ensures { result ≡ own (state_of state.now) thread }
+{
+    side(Role::Own, label_of(state, thread))
+}
+
+/// Its clearance.
+fn top(state: &PlainState, thread: ObjectId) -> Side
+    ensures { result ≡ top (state_of state.now) thread }
+{
+    side(Role::OwnClearance, clearance_of(state, thread))
+}
+
+/// The label of an object.
+fn of(state: &PlainState, thread: ObjectId, id: ObjectId) -> Side
+    ensures { result ≡ of (state_of state.now) thread id }
+{
+    let _thread = thread;
+    side(Role::Object(id), label_of(state, id))
+}
+
+/// A label that the call gives.
+fn given(raw: &RawLabel, meter: &mut Meter) -> Side
+    ensures { result ≡ given raw.now }
+{
+    side(Role::Given, stored_of(raw, meter))
+}
+
+/// A clearance that it gives.
+fn given_clearance(raw: &RawLabel, meter: &mut Meter) -> Side
+    ensures { result ≡ given_clearance raw.now }
+{
+    side(Role::GivenClearance, stored_of(raw, meter))
+}
+
 /// The label of an object, where it is recorded.
 fn label_of(state: &PlainState, id: ObjectId) -> Option<Label>
     ensures { result ≡ label_at (state_of state.now) id }
@@ -71,7 +115,7 @@ fn access_parts(state: &PlainState, thread: ObjectId, container: ObjectId) -> [P
     ensures { result ≡ access_parts (state_of state.now) thread container }
 {
     let live = state.is_live_kind(Kind::Container, container);
-    let labels = Comparison::Visible(label_of(state, container), label_of(state, thread));
+    let labels = Comparison::Visible(of(state, thread, container), own(state, thread));
     [Part::Fact(Fact::NoContainer, !live), Part::Compared(labels)]
 }
 
@@ -95,7 +139,7 @@ fn label_parts(state: &PlainState, thread: ObjectId, raw: &RawLabel, meter: &mut
 }
 
 /// A label is at least one and at most another.
-fn between_parts(low: &Option<Label>, label: &Option<Label>, high: &Option<Label>) -> [Part; 2]
+fn between_parts(low: &Side, label: &Side, high: &Side) -> [Part; 2]
     ensures { result ≡ between_parts low.now label.now high.now }
 {
     [
@@ -120,7 +164,7 @@ fn sum_part(state: &PlainState, thread: ObjectId, id: ObjectId, pages: u32) -> P
     ensures { result ≡ sum_part (state_of state.now) thread id pages }
 {
     let _thread = thread;
-    Part::Sum(state.used(id), pages, state.quota(id))
+    Part::Sum(id, state.used(id), pages, state.quota(id))
 }
 
 /// One part more, where it is asked.
@@ -250,13 +294,13 @@ fn own_bearer(state: &PlainState, thread: ObjectId) -> Bearer
 }
 
 /// A thread may have a clearance.
-fn clearable_parts(own: &Bearer, clearance: &Option<Label>) -> [Part; 2]
-    ensures { result ≡ part.Compared (compared.Below own.now.label clearance.now)
-        ∷ part.Compared (compared.BelowJoinUp clearance.now own.now.clearance own.now.label) ∷ [] }
+fn clearable_parts(own: &Side, top: &Side, clearance: &Side) -> [Part; 2]
+    ensures { result ≡ part.Compared (compared.Below own.now clearance.now)
+        ∷ part.Compared (compared.BelowJoinUp clearance.now top.now own.now) ∷ [] }
 {
     [
-        Part::Compared(Comparison::Below(own.label, *clearance)),
-        Part::Compared(Comparison::BelowJoinUp(*clearance, own.clearance, own.label)),
+        Part::Compared(Comparison::Below(*own, *clearance)),
+        Part::Compared(Comparison::BelowJoinUp(*clearance, *top, *own)),
     ]
 }
 
@@ -287,15 +331,24 @@ fn asked_of_gate(
 }
 
 /// The five gate rules.
-fn gate_parts(thread: &Bearer, gate: &Bearer, asked: &Asked) -> [Part; 5]
-    ensures { result ≡ gate_parts thread.now gate.now asked.now }
+fn gate_parts(id: ObjectId, thread: &Bearer, gate: &Bearer, asked: &Asked) -> [Part; 5]
+    ensures { result ≡ gate_parts id thread.now gate.now asked.now }
 {
+    let (own, most) = (
+        &side(Role::Own, thread.label),
+        &side(Role::Gate(id), gate.clearance),
+    );
+    let (label, clearance) = (
+        &side(Role::Given, asked.label),
+        &side(Role::GivenClearance, asked.clearance),
+    );
+    let top = side(Role::OwnClearance, thread.clearance);
     [
-        Part::Compared(Comparison::Below(thread.label, gate.clearance)),
-        Part::Compared(Comparison::Below(thread.label, asked.verify)),
-        Part::Compared(Comparison::AboveFloor(thread.label, gate.label, asked.label)),
-        Part::Compared(Comparison::Below(asked.label, asked.clearance)),
-        Part::Compared(Comparison::BelowJoin(asked.clearance, thread.clearance, gate.clearance)),
+        Part::Compared(Comparison::Below(*own, *most)),
+        Part::Compared(Comparison::Below(*own, side(Role::Verified, asked.verify))),
+        Part::Compared(Comparison::AboveFloor(*own, side(Role::Object(id), gate.label), *label)),
+        Part::Compared(Comparison::Below(*label, *clearance)),
+        Part::Compared(Comparison::BelowJoin(*clearance, top, *most)),
     ]
 }
 
@@ -346,13 +399,13 @@ pub(crate) fn parts_of(
         Condition::NotObserved(id) => {
             compared(
                 alloc,
-                Comparison::Visible(label_of(state, *id), label_of(state, thread)),
+                Comparison::Visible(of(state, thread, *id), own(state, thread)),
             )
         }
         Condition::NotFlowing(id) => {
             compared(
                 alloc,
-                Comparison::Below(label_of(state, thread), label_of(state, *id)),
+                Comparison::Below(own(state, thread), of(state, thread, *id)),
             )
         }
         Condition::NotShown(id) => {
@@ -361,7 +414,7 @@ pub(crate) fn parts_of(
             }
             compared(
                 alloc,
-                Comparison::Shown(label_of(state, *id), label_of(state, thread)),
+                Comparison::Shown(of(state, thread, *id), own(state, thread)),
             )
         }
         Condition::BadLabel(raw) => Parts::of(alloc, &label_parts(state, thread, raw, meter)),
@@ -373,25 +426,31 @@ pub(crate) fn parts_of(
         Condition::BelowThread(raw) => {
             compared(
                 alloc,
-                Comparison::Below(label_of(state, thread), stored_of(raw, meter)),
+                Comparison::Below(own(state, thread), given(raw, meter)),
             )
         }
         Condition::OutOfRange(raw) => {
-            let (low, high) = (label_of(state, thread), clearance_of(state, thread));
-            Parts::of(alloc, &between_parts(&low, &stored_of(raw, meter), &high))
+            let (low, high) = (own(state, thread), top(state, thread));
+            Parts::of(alloc, &between_parts(&low, &given(raw, meter), &high))
         }
         Condition::OutOfClearance(raw, above) => {
-            let (low, high) = (stored_of(raw, meter), clearance_of(state, thread));
-            Parts::of(alloc, &between_parts(&low, &stored_of(above, meter), &high))
+            let (low, high) = (given(raw, meter), top(state, thread));
+            Parts::of(
+                alloc,
+                &between_parts(&low, &given_clearance(above, meter), &high),
+            )
         }
         Condition::NotClearable(raw) => {
-            let own = own_bearer(state, thread);
-            Parts::of(alloc, &clearable_parts(&own, &stored_of(raw, meter)))
+            let (low, high) = (own(state, thread), top(state, thread));
+            Parts::of(
+                alloc,
+                &clearable_parts(&low, &high, &given_clearance(raw, meter)),
+            )
         }
         Condition::AboveClearance(id) => {
             compared(
                 alloc,
-                Comparison::Below(label_of(state, *id), clearance_of(state, thread)),
+                Comparison::Below(of(state, thread, *id), top(state, thread)),
             )
         }
         Condition::Avoided(kind, container) => fact(
@@ -455,8 +514,8 @@ pub(crate) fn parts_of(
         }
         Condition::NotAdmitted(gate, label, clearance, verify) => {
             let asked = asked_of_gate(label, clearance, verify, meter);
-            let (own, gate) = (own_bearer(state, thread), gate_bearer(state, *gate));
-            Parts::of(alloc, &gate_parts(&own, &gate, &asked))
+            let (own, bearer) = (own_bearer(state, thread), gate_bearer(state, *gate));
+            Parts::of(alloc, &gate_parts(*gate, &own, &bearer, &asked))
         }
         Condition::QueueFull(id) => fact(alloc, Fact::QueueFull, 4 <= state.packets(*id).len()),
         Condition::QueueEmpty(id) => fact(alloc, Fact::QueueEmpty, state.packets(*id).len() == 0),

@@ -25,5 +25,5 @@ pub use laws::{
     comparisons_are_exact, failing_is_exact, findings_are_the_row, holds_where_none_fails,
     least_is_the_refusal, none_holds_where_accepted,
 };
-pub use parts::{Comparison, Finding, Part, Parts};
+pub use parts::{Comparison, Finding, Part, Parts, Role, Side};
 pub use relations::{Rank, Relation};

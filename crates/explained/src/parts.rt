@@ -2,27 +2,55 @@
 ghost use Rattle.std.specs.Prelude.{◌≡◌, ◌≤◌, ◌++◌, ◌∷◌, [], map, length, OnOk, IfOk};
 
 use crate::facts::Fact;
-use base::{NoMemory, Refusal};
+use base::{NoMemory, ObjectId, Refusal};
 use kernel_rules::Mapping;
 use label_lattice::Label;
 use std::alloc::Global;
 use std::marker::Model;
 
-/// Labels that are compared, where they are there. A comparison fails where one is not there.
+/// Whose a label is that is compared, or what the call gives it as.
+#[derive(Clone, Copy, PartialEq, Eq, Debug)]
+pub enum Role {
+    /// The label of the calling thread.
+    Own,
+    /// Its clearance.
+    OwnClearance,
+    /// The label of an object.
+    Object(ObjectId),
+    /// The clearance of a gate.
+    Gate(ObjectId),
+    /// The label that the call gives.
+    Given,
+    /// The clearance that it gives.
+    GivenClearance,
+    /// The label that it shows to a gate.
+    Verified,
+}
+
+/// A label that is compared, where it is there, and whose it is.
+#[derive(Clone, Copy)]
+pub struct Side {
+    /// Whose it is.
+    pub role: Role,
+    /// The label.
+    pub label: Option<Label>,
+}
+
+/// Labels that are compared. A comparison fails where one is not there.
 #[derive(Clone, Copy)]
 pub enum Comparison {
     /// The first is at most the second.
-    Below(Option<Label>, Option<Label>),
+    Below(Side, Side),
     /// The first is at most the second with star raised.
-    Visible(Option<Label>, Option<Label>),
+    Visible(Side, Side),
     /// The first with star raised is at most the second with star raised.
-    Shown(Option<Label>, Option<Label>),
+    Shown(Side, Side),
     /// The first is at most the maximum of the others.
-    BelowJoin(Option<Label>, Option<Label>, Option<Label>),
+    BelowJoin(Side, Side, Side),
     /// The first is at most the maximum of the second and of the third with star raised.
-    BelowJoinUp(Option<Label>, Option<Label>, Option<Label>),
+    BelowJoinUp(Side, Side, Side),
     /// The third is at least the floor of a thread of the first past a gate of the second.
-    AboveFloor(Option<Label>, Option<Label>, Option<Label>),
+    AboveFloor(Side, Side, Side),
 }
 
 /// One part of a condition. The condition holds, and refuses the call, where a part stands against
@@ -37,8 +65,8 @@ pub enum Part {
     AtLeast(u64, u64),
     /// A number that is to be at most another: the number, and its most.
     AtMost(u64, u64),
-    /// What is used, what is to come, in pages of 256 bytes, and what both are to be at most.
-    Sum(u128, u32, u32),
+    /// An object, what it uses, what is to come, in pages of 256 bytes, and its quota, which both are to be at most.
+    Sum(ObjectId, u128, u32, u32),
     /// A slot that is to be empty, and what it maps.
     Empty(u32, Option<Mapping>),
     /// A mapping that is to meet no page of what a slot maps: the slot, the mapping, and what it

@@ -130,7 +130,7 @@ fn a_quota_that_does_not_suffice_is_told_by_its_sum(alloc: Global, look: &mut Lo
     let found = explain(&state, boot_thread(), &call)?;
     look.sees(agree(refusal_among(&found, &mut meter), Some(Refusal::NoQuota)));
     let part = part_of(&found, Refusal::NoQuota, 0);
-    look.sees(matches!(part, Some(Part::Sum(4, 90, 64))));
+    look.sees(matches!(part, Some(Part::Sum(_, 4, 90, 64))));
     Ok(())
 }
 
