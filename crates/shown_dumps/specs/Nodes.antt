@@ -18,9 +18,9 @@ abbrev pub broken : ℕ → List ℕ → List ℕ
 broken last [] = []
 broken last (x ∷ xs) = (if (last == 44) && (x == 32) then codes "\\n" else x ∷ []) ++ broken x xs
 
--- the name of the node of an object in a container
-abbrev pub node_name : ℕ → ℕ → List ℕ
-node_name container id = codes "o" ++ decimal container ++ codes "_" ++ decimal id
+-- the name of the node of an object
+abbrev pub node_name : ℕ → List ℕ
+node_name id = codes "o" ++ decimal id
 
 -- an object that is reached is red, and each other one black: a cluster would else take the colour of the one around it
 abbrev pub color_text : Bool → List ℕ
@@ -33,11 +33,11 @@ attributes names s reached p x = codes "label=\"" ++ broken 0 (object_text names
 -- the line of a node
 abbrev pub node_line : List Named → State → List ℕ → Place → Object → List ℕ
 node_line names s reached p x =
-    indent p.depth ++ node_name p.container p.id ++ codes " [" ++ attributes names s reached p x ++ codes "];\n"
+    indent p.depth ++ node_name p.id ++ codes " [" ++ attributes names s reached p x ++ codes "];\n"
 
 -- an arrow to what an entry names
 abbrev pub arrow_text : Place → Entry → List ℕ
-arrow_text p e = node_name p.container p.id ++ codes " -> " ++ node_name e.container e.object
+arrow_text p e = node_name p.id ++ codes " -> " ++ node_name e.object
 
 -- an arrow for each filled slot, the first of which has this number
 abbrev pub slot_arrow : Place → ℕ → Option Mapping → List ℕ
@@ -69,6 +69,10 @@ unseen_node id = codes "]; c" ++ decimal id ++ codes " [style=invis];\n"
 
 abbrev pub cluster_text : List Named → State → List ℕ → Place → Object → List ℕ
 cluster_text names s reached p x = cluster_begin p ++ attributes names s reached p x ++ unseen_node p.id
+
+-- an arrow to the object from the container that lists it there
+abbrev pub list_arrow : Place → List ℕ
+list_arrow p = codes "c" ++ decimal p.container ++ codes " -> " ++ node_name p.id ++ codes " [style=dotted, dir=both, arrowtail=dot];\n"
 
 -- what stands of an object before what it lists, and after it
 abbrev pub open_text : List Named → State → List ℕ → Place → Object → List ℕ

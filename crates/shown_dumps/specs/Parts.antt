@@ -8,7 +8,7 @@ use Rattle.kernel_rules.specs.declared.replies.Reply.TheVariants as replies
 use Rattle.call_text.specs.Reply.{reply_text}
 use Rattle.call_text.specs.ReplyWord.{value_text}
 use Rattle.call_text.specs.declared.known_names.Named.{Named}
-use Rattle.call_text.specs.declared.known_names.Value.TheVariants.{Category as OfCategory}
+use Rattle.call_text.specs.declared.known_names.Value.TheVariants.{Category as OfCategory, Object as OfObject}
 use Rattle.explained.specs.Compared.{sides, named_of, rest_of}
 use Rattle.explained.specs.Parts.{is_against, refuses}
 use Rattle.explained.specs.declared.failing.Failure.{Failure}
@@ -20,12 +20,35 @@ use Rattle.explained.specs.declared.parts.Comparison.TheVariants as compared
 use Rattle.explained.specs.declared.parts.Finding.{Finding}
 use Rattle.explained.specs.declared.parts.Part.{Part}
 use Rattle.explained.specs.declared.parts.Part.TheVariants as is
+use Rattle.explained.specs.declared.parts.Role.{Role}
+use Rattle.explained.specs.declared.parts.Role.TheVariants as roles
+use Rattle.explained.specs.declared.parts.Side.{Side}
 use Rattle.shown_dumps.specs.Facts.{told_text}
 
--- a label, where it is there, by the names that are known
-abbrev pub label_text : List Named → Option LabelValue → List ℕ
-label_text names None = codes "no label"
-label_text names (Some label) = reply_text names (replies.Label label)
+-- what stands before a label, by whose it is
+abbrev pub before_text : Role → List ℕ
+before_text roles.Own = codes "the thread's "
+before_text roles.OwnClearance = codes "the thread's clearance "
+before_text (roles.Object id) = []
+before_text (roles.Gate id) = codes "clearance "
+before_text roles.Given = codes "the given "
+before_text roles.GivenClearance = codes "the given clearance "
+before_text roles.Verified = codes "the shown "
+
+-- and after it: the object whose it is, by the names that are known
+abbrev pub after_text : List Named → Role → List ℕ
+after_text names (roles.Object id) = codes " of " ++ value_text names (OfObject id)
+after_text names (roles.Gate id) = codes " of " ++ value_text names (OfObject id)
+after_text names role = []
+
+-- a label, where it is there
+abbrev pub label_text : List Named → Role → Option LabelValue → List ℕ
+label_text names role None = codes "no label"
+label_text names role (Some label) = before_text role ++ reply_text names (replies.Label label)
+
+-- and whose it is
+abbrev pub side_text : List Named → Side → List ℕ
+side_text names side = label_text names side.role side.label ++ after_text names side.role
 
 -- what a slot maps
 abbrev pub mapping_text : List Named → Option Mapping → List ℕ
@@ -45,8 +68,8 @@ abbrev pub either : Bool → List ℕ → List ℕ → List ℕ
 either against bad good = if against then bad else good
 
 -- two labels with words between them
-abbrev pub two_text : List Named → Option LabelValue → List ℕ → Option LabelValue → List ℕ
-two_text names a words b = label_text names a ++ words ++ label_text names b
+abbrev pub two_text : List Named → Side → List ℕ → Side → List ℕ
+two_text names a words b = side_text names a ++ words ++ side_text names b
 
 -- how a label stands to another one, and to the maximum of two others
 abbrev pub at_most_text : Bool → List ℕ
@@ -63,12 +86,12 @@ comparison_text names against (compared.Shown a b) =
     two_text names a (either against (codes " with star raised is not at most ") (codes " with star raised is at most ")) b
     ++ codes " with star raised"
 comparison_text names against (compared.BelowJoin a b c) =
-    two_text names a (maximum_text against) b ++ codes " and " ++ label_text names c
+    two_text names a (maximum_text against) b ++ codes " and " ++ side_text names c
 comparison_text names against (compared.BelowJoinUp a b c) =
-    two_text names a (maximum_text against) b ++ codes " and " ++ label_text names c ++ codes " with star raised"
+    two_text names a (maximum_text against) b ++ codes " and " ++ side_text names c ++ codes " with star raised"
 comparison_text names against (compared.AboveFloor a b c) =
     two_text names c (either against (codes " is not at least the floor of ") (codes " is at least the floor of ")) a
-    ++ codes " and " ++ label_text names b
+    ++ codes " and " ++ side_text names b
 
 -- how many pages are to come, and how many there may be
 abbrev pub more_text : Bool → ℕ → ℕ → List ℕ
@@ -82,8 +105,8 @@ said_text names opposed (is.AtLeast number least) =
     decimal number ++ either opposed (codes " is less than ") (codes " is at least ") ++ decimal least
 said_text names opposed (is.AtMost number most) =
     decimal number ++ either opposed (codes " is more than ") (codes " is at most ") ++ decimal most
-said_text names opposed (is.Sum used more most) =
-    decimal used ++ codes " pages used and " ++ more_text opposed more most
+said_text names opposed (is.Sum id used more most) =
+    (decimal used ++ codes " pages used and " ++ more_text opposed more most) ++ (codes ", the quota of " ++ value_text names (OfObject id))
 said_text names opposed (is.Empty slot mapping) =
     codes "slot " ++ decimal slot ++ either opposed (codes " is not empty: it has ") (codes " is empty: it has ")
     ++ mapping_text names mapping

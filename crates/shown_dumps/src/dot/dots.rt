@@ -1,13 +1,14 @@
 //! The graph.
 ghost use Rattle.std.specs.Prelude.{◌≡◌, ◌++◌, ◌+◌, ◌^◌, ◌<◌, IfErr, IfOk, OnOk};
 ghost use Rattle.dump_text.specs.Dump.{IsDump};
-ghost use Rattle.shown_dumps.specs.Dots.{opened_at, closed_at, dot_from, arrows_at, arrows_from, dot_text};
+ghost use Rattle.shown_dumps.specs.Dots.{is_before, is_first, is_other, is_shared, opened_of, closed_of, opened_at, closed_at, dot_from};
+ghost use Rattle.shown_dumps.specs.Dots.{own_arrows, arrows_of, arrows_at, arrows_from, dot_text};
 ghost use Rattle.shown_dumps.specs.DotShown.{IsRed, IsDot, IsNoDot};
 ghost use Rattle.plain_state.specs.StateOf.{state_of};
 
 use crate::dot::faults::DotFault;
 use crate::dot::looks::Look;
-use crate::dot::nodes::{put_arrows, put_closed, put_opened};
+use crate::dot::nodes::{put_arrows, put_closed, put_list_arrow, put_opened};
 use crate::states::{ShowFault, dump_in, state_in};
 use crate::tree::Place;
 use auditor::clean_dumps::DumpFault;
@@ -16,8 +17,65 @@ use auditor::{Audited, audit_dump};
 use base::{Category, Meter, NoMemory, ObjectId};
 use call_text::Named;
 use dump_text::Dump;
+use kernel_rules::Object;
 use plain_state::PlainState;
 use std::alloc::Global;
+
+/// Whether another container lists the object at a place.
+fn is_other(state: &PlainState, place: &Place, container: ObjectId) -> bool
+    ensures { result ≡ is_other (state_of state.now) place.now container }
+{
+    state.lists(container, place.id) && container != place.container
+}
+
+/// Whether one does that has a lower id.
+fn is_before(state: &PlainState, place: &Place, container: ObjectId) -> bool
+    ensures { result ≡ is_before (state_of state.now) place.now container }
+{
+    state.lists(container, place.id) && container.number() < place.container.number()
+}
+
+/// Whether more than one container lists the object at a place.
+fn is_shared(state: &PlainState, place: &Place) -> bool
+    ensures { result ≡ is_shared (state_of state.now) place.now }
+{
+    for (id, _) in state.records().objects.iter() {
+        if is_other(state, place, *id) {
+            return true;
+        }
+    }
+    false
+}
+
+/// Whether the object at a place stands there: in the first container that lists it.
+fn is_first(state: &PlainState, place: &Place) -> bool
+    ensures { result ≡ is_first (state_of state.now) place.now }
+{
+    for (id, _) in state.records().objects.iter() {
+        if is_before(state, place, *id) {
+            return false;
+        }
+    }
+    true
+}
+
+/// Adds what stands of an object at a place before what it lists.
+fn put_opened_of(
+    out: &mut Vec<u8>,
+    state: &PlainState,
+    look: &Look<'_>,
+    place: &Place,
+    object: &Object,
+    meter: &mut Meter,
+) -> Result<(), NoMemory>
+    ensures { OnOk result (out.new.items
+        ≡ out.old.items ++ opened_of look.now.names.now (state_of state.now) look.now.reached.now place.now object.now) }
+{
+    if is_first(state, place) {
+        put_opened(out, state, look, place, object, meter)?;
+    }
+    Ok(())
+}
 
 /// Adds what stands at a place before what the object there lists.
 fn put_before(
@@ -32,8 +90,23 @@ fn put_before(
 {
     match state.object(place.id) {
         None => Ok(()),
-        Some(object) => put_opened(out, state, look, place, object, meter),
+        Some(object) => put_opened_of(out, state, look, place, object, meter),
     }
+}
+
+/// Adds what stands of an object at a place after what it lists.
+fn put_closed_of(
+    out: &mut Vec<u8>,
+    state: &PlainState,
+    place: &Place,
+    object: &Object,
+) -> Result<(), NoMemory>
+    ensures { OnOk result (out.new.items ≡ out.old.items ++ closed_of (state_of state.now) place.now object.now) }
+{
+    if is_first(state, place) {
+        put_closed(out, place, object)?;
+    }
+    Ok(())
 }
 
 /// Adds what stands at a place after what the object there lists.
@@ -42,7 +115,7 @@ fn put_after(out: &mut Vec<u8>, state: &PlainState, place: &Place) -> Result<(),
 {
     match state.object(place.id) {
         None => Ok(()),
-        Some(object) => put_closed(out, place, object),
+        Some(object) => put_closed_of(out, state, place, object),
     }
 }
 
@@ -70,13 +143,44 @@ fn put_dot(
     Ok(())
 }
 
-/// Adds the arrows from what stands at a place.
+/// Adds the arrows from an object, where it stands.
+fn put_own_arrows(
+    out: &mut Vec<u8>,
+    state: &PlainState,
+    place: &Place,
+    object: &Object,
+) -> Result<(), NoMemory>
+    ensures { OnOk result (out.new.items ≡ out.old.items ++ own_arrows (state_of state.now) place.now object.now) }
+{
+    if is_first(state, place) {
+        put_arrows(out, place, &object.body)?;
+    }
+    Ok(())
+}
+
+/// Adds these, and that of the container where more than one lists the object.
+fn put_arrows_of(
+    out: &mut Vec<u8>,
+    state: &PlainState,
+    place: &Place,
+    object: &Object,
+) -> Result<(), NoMemory>
+    ensures { OnOk result (out.new.items ≡ out.old.items ++ arrows_of (state_of state.now) place.now object.now) }
+{
+    put_own_arrows(out, state, place, object)?;
+    if is_shared(state, place) {
+        put_list_arrow(out, place)?;
+    }
+    Ok(())
+}
+
+/// Adds the arrows of what is at a place.
 fn put_arrows_at(out: &mut Vec<u8>, state: &PlainState, place: &Place) -> Result<(), NoMemory>
     ensures { OnOk result (out.new.items ≡ out.old.items ++ arrows_at (state_of state.now) place.now) }
 {
     match state.object(place.id) {
         None => Ok(()),
-        Some(object) => put_arrows(out, place, &object.body),
+        Some(object) => put_arrows_of(out, state, place, object),
     }
 }
 

@@ -1,7 +1,7 @@
 //! The nodes and clusters of objects.
 ghost use Rattle.std.specs.Prelude.{◌≡◌, ◌++◌, ◌+◌, ◌^◌, ◌<◌, OnOk, length};
 ghost use Rattle.base.specs.Live.{has};
-ghost use Rattle.shown_dumps.specs.Nodes.{broken, node_name, color_text, attributes, node_line, arrow_text, slot_arrow, slot_arrows, space_arrow, body_arrows, cluster_begin, unseen_node, cluster_text, open_text, close_text};
+ghost use Rattle.shown_dumps.specs.Nodes.{broken, node_name, color_text, attributes, node_line, arrow_text, slot_arrow, slot_arrows, space_arrow, body_arrows, cluster_begin, list_arrow, unseen_node, cluster_text, open_text, close_text};
 ghost use Rattle.plain_state.specs.StateOf.{state_of};
 
 use crate::dot::looks::Look;
@@ -27,13 +27,11 @@ fn put_broken(out: &mut Vec<u8>, text: &[u8]) -> Result<(), NoMemory>
     Ok(())
 }
 
-/// Adds the name of the node of an object in a container.
-fn put_name(out: &mut Vec<u8>, container: ObjectId, id: ObjectId) -> Result<(), NoMemory>
-    ensures { OnOk result (out.new.items ≡ out.old.items ++ node_name container id) }
+/// Adds the name of the node of an object.
+fn put_name(out: &mut Vec<u8>, id: ObjectId) -> Result<(), NoMemory>
+    ensures { OnOk result (out.new.items ≡ out.old.items ++ node_name id) }
 {
     out.extend_from_slice(b"o")?;
-    put_number(out, container.number())?;
-    out.extend_from_slice(b"_")?;
     put_number(out, id.number())?;
     Ok(())
 }
@@ -90,7 +88,7 @@ fn put_node(
         ≡ out.old.items ++ node_line look.now.names.now (state_of state.now) look.now.reached.now place.now object.now) }
 {
     put_indent(out, place.depth)?;
-    put_name(out, place.container, place.id)?;
+    put_name(out, place.id)?;
     out.extend_from_slice(b" [")?;
     put_attributes(out, state, look, place, object, meter)?;
     out.extend_from_slice(b"];\n")?;
@@ -101,9 +99,9 @@ fn put_node(
 fn put_arrow(out: &mut Vec<u8>, place: &Place, entry: &Entry) -> Result<(), NoMemory>
     ensures { OnOk result (out.new.items ≡ out.old.items ++ arrow_text place.now entry.now) }
 {
-    put_name(out, place.container, place.id)?;
+    put_name(out, place.id)?;
     out.extend_from_slice(b" -> ")?;
-    put_name(out, entry.container, entry.object)
+    put_name(out, entry.object)
 }
 
 /// Adds the arrow of a slot, nothing where it is empty.
@@ -168,6 +166,18 @@ pub fn put_arrows(out: &mut Vec<u8>, place: &Place, body: &Body) -> Result<(), N
         Body::Segment(_) => Ok(()),
         Body::Device(_) => Ok(()),
     }
+}
+
+/// Adds the arrow to an object from the container that lists it at a place. The error is want of memory.
+pub fn put_list_arrow(out: &mut Vec<u8>, place: &Place) -> Result<(), NoMemory>
+    ensures { OnOk result (out.new.items ≡ out.old.items ++ list_arrow place.now) }
+{
+    out.extend_from_slice(b"c")?;
+    put_number(out, place.container.number())?;
+    out.extend_from_slice(b" -> ")?;
+    put_name(out, place.id)?;
+    out.extend_from_slice(b" [style=dotted, dir=both, arrowtail=dot];\n")?;
+    Ok(())
 }
 
 /// Adds the beginning of a cluster, up to what Graphviz is told of it.

@@ -113,7 +113,7 @@ pub fn put_failing(
         Part::Compared(labels) => put_compared(out, labels, names, meter),
         Part::AtLeast(_, _) => Ok(()),
         Part::AtMost(_, _) => Ok(()),
-        Part::Sum(_, _, _) => Ok(()),
+        Part::Sum(_, _, _, _) => Ok(()),
         Part::Empty(_, _) => Ok(()),
         Part::Apart(_, _, _) => Ok(()),
     }

@@ -2,18 +2,17 @@
 ghost use Rattle.std.specs.Prelude.{◌≡◌, ◌++◌, ◌∷◌, ◌≤◌, [], OnOk, decimal, codes};
 ghost use Rattle.std.specs.List.{flat_map};
 ghost use Rattle.explained.specs.Parts.{is_against};
-ghost use Rattle.shown_dumps.specs.Parts.{either, label_text, mapping_text, two_text, comparison_text, more_text, said_text};
+ghost use Rattle.shown_dumps.specs.Parts.{after_text, before_text, either, mapping_text, side_text, two_text, comparison_text, more_text, said_text};
 ghost use Rattle.shown_dumps.specs.Parts.{shown_text, part_text, finding_text, reason_text, reasons_text, condition_text};
 
-use crate::states::{put_bare, put_named};
+use crate::states::{put_bare, put_named, put_value};
 use crate::why::facts::told_text;
 use crate::why::failures::put_failing;
 use base::{Meter, NoMemory, Refusal};
-use call_text::Named;
-use explained::{Comparison, Finding, Part};
+use call_text::{Named, Value};
+use explained::{Comparison, Finding, Part, Role, Side};
 use itoa::Buffer;
 use kernel_rules::{Mapping, Reply};
-use label_lattice::Label;
 use std::alloc::AllocError;
 use text_words::put_number;
 
@@ -24,14 +23,46 @@ fn either(against: bool, bad: &'static str, good: &'static str) -> &'static str
     if against { bad } else { good }
 }
 
-/// Adds a label, where it is there.
-fn put_label(out: &mut Vec<u8>, label: &Option<Label>, names: &[Named]) -> Result<(), NoMemory>
-    ensures { OnOk result (out.new.items ≡ out.old.items ++ label_text names.now label.now) }
+/// What stands before a label, by whose it is.
+fn before_text(role: Role) -> &'static str
+    ensures { result.now ≡ before_text role }
 {
-    match label {
-        None => Ok(out.extend_from_slice(b"no label")?),
-        Some(label) => put_named(out, &Reply::Label(*label), names),
+    match role {
+        Role::Own => "the thread's ",
+        Role::OwnClearance => "the thread's clearance ",
+        Role::Object(_) => "",
+        Role::Gate(_) => "clearance ",
+        Role::Given => "the given ",
+        Role::GivenClearance => "the given clearance ",
+        Role::Verified => "the shown ",
     }
+}
+
+/// Adds what stands after it: the object whose it is, by its name.
+fn put_after(out: &mut Vec<u8>, role: Role, names: &[Named]) -> Result<(), NoMemory>
+    ensures { OnOk result (out.new.items ≡ out.old.items ++ after_text names.now role) }
+{
+    match role {
+        Role::Object(id) | Role::Gate(id) => {
+            out.extend_from_slice(b" of ")?;
+            put_value(out, &Value::Object(id), names)
+        }
+        _ => Ok(()),
+    }
+}
+
+/// Adds a label, where it is there, and whose it is.
+fn put_side(out: &mut Vec<u8>, side: &Side, names: &[Named]) -> Result<(), NoMemory>
+    ensures { OnOk result (out.new.items ≡ out.old.items ++ side_text names.now side.now) }
+{
+    match &side.label {
+        None => out.extend_from_slice(b"no label")?,
+        Some(label) => {
+            out.extend_from_slice(before_text(side.role).as_bytes())?;
+            put_named(out, &Reply::Label(*label), names)?;
+        }
+    }
+    put_after(out, side.role, names)
 }
 
 /// Adds what a slot maps.
@@ -44,42 +75,42 @@ fn put_mapping(out: &mut Vec<u8>, mapping: Option<Mapping>, names: &[Named]) -> 
 /// Adds a label, some words, and a second label.
 fn put_two(
     out: &mut Vec<u8>,
-    first: &Option<Label>,
+    first: &Side,
     words: &str,
-    second: &Option<Label>,
+    second: &Side,
     names: &[Named],
 ) -> Result<(), NoMemory>
     ensures { OnOk result (out.new.items
         ≡ out.old.items ++ (two_text names.now first.now words.now second.now)) }
 {
-    put_label(out, first, names)?;
+    put_side(out, first, names)?;
     out.extend_from_slice(words.as_bytes())?;
-    put_label(out, second, names)
+    put_side(out, second, names)
 }
 
 /// Adds two labels with words between them, and more words.
 fn put_three(
     out: &mut Vec<u8>,
-    first: &Option<Label>,
+    first: &Side,
     words: &str,
-    second: &Option<Label>,
-    third: &Option<Label>,
+    second: &Side,
+    third: &Side,
     names: &[Named],
 ) -> Result<(), NoMemory>
     ensures { OnOk result (out.new.items ≡ out.old.items
-        ++ (two_text names.now first.now words.now second.now ++ codes " and " ++ label_text names.now third.now)) }
+        ++ (two_text names.now first.now words.now second.now ++ codes " and " ++ side_text names.now third.now)) }
 {
     put_two(out, first, words, second, names)?;
     out.extend_from_slice(b" and ")?;
-    put_label(out, third, names)
+    put_side(out, third, names)
 }
 
 /// Adds two labels with words between them, and that the second is taken with star raised.
 fn put_two_raised(
     out: &mut Vec<u8>,
-    first: &Option<Label>,
+    first: &Side,
     words: &str,
-    second: &Option<Label>,
+    second: &Side,
     names: &[Named],
 ) -> Result<(), NoMemory>
     ensures { OnOk result (out.new.items ≡ out.old.items
@@ -93,14 +124,14 @@ fn put_two_raised(
 /// Adds three labels with words between them, and that the third is taken with star raised.
 fn put_three_raised(
     out: &mut Vec<u8>,
-    first: &Option<Label>,
+    first: &Side,
     words: &str,
-    second: &Option<Label>,
-    third: &Option<Label>,
+    second: &Side,
+    third: &Side,
     names: &[Named],
 ) -> Result<(), NoMemory>
     ensures { OnOk result (out.new.items ≡ out.old.items
-        ++ (two_text names.now first.now words.now second.now ++ codes " and " ++ label_text names.now third.now
+        ++ (two_text names.now first.now words.now second.now ++ codes " and " ++ side_text names.now third.now
         ++ codes " with star raised")) }
 {
     put_three(out, first, words, second, third, names)?;
@@ -245,7 +276,11 @@ fn put_said(out: &mut Vec<u8>, against: bool, part: &Part, names: &[Named]) -> R
             let words = either(against, " is more than ", " is at most ");
             put_numbers(out, *number, words, *most)
         }
-        Part::Sum(used, more, most) => put_sum(out, against, *used, *more, *most),
+        Part::Sum(id, used, more, most) => {
+            put_sum(out, against, *used, *more, *most)?;
+            out.extend_from_slice(b", the quota of ")?;
+            put_value(out, &Value::Object(*id), names)
+        }
         Part::Empty(slot, mapping) => put_empty(out, against, *slot, *mapping, names),
         Part::Apart(slot, given, mapping) => put_apart(
             out, against, *slot, *given, *mapping, names,
