@@ -9,4 +9,4 @@ mod lines;
 mod program;
 
 pub use labels::read_label;
-pub use program::{AuditEnd, NAME, audit_on};
+pub use program::{Asked, AuditEnd, NAME, audit_on};

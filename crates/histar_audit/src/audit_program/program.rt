@@ -1,15 +1,16 @@
 //! The program, over a reader, a sink and a writer.
-ghost use Rattle.std.specs.Prelude.{◌≡◌, ◌<◌, ℕ, [], IfOk, IfSome, Some, None, false, is_some};
+ghost use Rattle.std.specs.Prelude.{◌≡◌, ◌<◌, ℕ, [], IfOk, IfSome, Some, None};
 ghost use Rattle.auditor.specs.Audited.{verdict_of, IsAudited};
-ghost use Rattle.histar_audit.specs.Told.{is_asked, told_text, verdict_status, IsFound, IsHiddenIn, IsMigration, IsReachedIn, IsTold};
+ghost use Rattle.histar_audit.specs.Told.{begins_later, is_asked, nothing, told_text, verdict_status, IsFound, IsHiddenIn, IsMigration, IsReachedIn, IsTold};
 ghost use Rattle.histar_audit.specs.Told.{TellsVerdict};
 
-use crate::audit_program::lines::text_of;
+use crate::audit_program::lines::{Answers, text_of};
 use auditor::clean_dumps::DumpFault;
 use auditor::tracing::trace;
 use auditor::{Audited, Verdict, read_audited};
 use base::{Category, NoMemory, ObjectId};
-use dump_text::{DumpError, MigrateFault, migrate};
+use call_text::Named;
+use dump_text::{Dump, DumpError, MigrateFault, boot_checkpoint, head_text, migrate};
 use hidden_replies::{Difference, hidden_replies};
 use label_lattice::Label;
 use program_io::{AuditOptions, Fault, Sink, bytes_of, deliver};
@@ -18,6 +19,17 @@ use std::io::{Read, Write};
 
 /// The program's name, with which its lines on standard error begin.
 pub const NAME: &str = "histar-audit";
+
+/// What is asked of an audit.
+#[derive(Clone, Copy)]
+pub struct Asked<'a> {
+    /// How the dump is audited.
+    pub options: AuditOptions,
+    /// The label of the observer from whom threads are hidden, where it is asked for what these changed.
+    pub hidden: Option<Label>,
+    /// The names that objects and categories are told by.
+    pub names: &'a [Named],
+}
 
 /// How an audit ended.
 #[derive(PartialEq, Eq, Debug, Drop)]
@@ -148,31 +160,37 @@ fn hidden_in(
     }
 }
 
+/// Whether a dump begins at a checkpoint that is not the boot's.
+fn begins_later(alloc: Global, dump: &Dump) -> Result<bool, NoMemory>
+    ensures { IfOk result (λ later. later ≡ begins_later dump.now.limits dump.now.checkpoint) }
+{
+    let Some(checkpoint) = &dump.checkpoint else {
+        return Ok(false);
+    };
+    let boot = boot_checkpoint(alloc, &dump.limits)?;
+    let told = head_text(alloc, &dump.limits, checkpoint)?;
+    let booted = head_text(alloc, &dump.limits, &boot)?;
+    Ok(!(told.as_slice() == booted.as_slice()))
+}
+
 /// What is found of a dump that was read.
-fn found_in(
-    alloc: Global,
-    audited: &Audited<'_>,
-    options: &AuditOptions,
-    hidden: Option<Label>,
-) -> Result<Found, NoMemory>
+fn found_in(alloc: Global, audited: &Audited<'_>, asked: &Asked<'_>) -> Result<Found, NoMemory>
     requires { IsAudited audited.now }
-    ensures { IfOk result (λ found. IsFound options.now hidden found.verdict found.file.items found.text.items
-        audited.now.bytes.now) }
+    ensures { IfOk result (λ found. IsFound asked.now found.verdict found.file.items found.text.items audited.now.bytes.now) }
 {
     let verdict = audited.verdict();
-    let file = file_of(alloc, options, audited.bytes, verdict)?;
-    let reached = reached_in(alloc, audited, options)?;
-    let flows = is_asked(options.flow.is_some(), verdict);
-    let observed = is_asked(hidden.is_some(), verdict);
-    let told = hidden_in(alloc, audited, hidden)?;
-    let text = text_of(
-        alloc,
-        verdict,
-        flows,
-        reached.as_slice(),
-        observed,
-        told.as_slice(),
-    )?;
+    let file = file_of(alloc, &asked.options, audited.bytes, verdict)?;
+    let reached = reached_in(alloc, audited, &asked.options)?;
+    let told = hidden_in(alloc, audited, asked.hidden)?;
+    let later = begins_later(alloc, &audited.dump)?;
+    let answers = Answers {
+        begins_later: is_asked(later, verdict),
+        flows: is_asked(asked.options.flow.is_some(), verdict),
+        reached: reached.as_slice(),
+        hidden: is_asked(asked.hidden.is_some(), verdict),
+        told: told.as_slice(),
+    };
+    let text = text_of(alloc, verdict, &answers, asked.names)?;
     Ok(Found {
         verdict,
         file,
@@ -184,10 +202,17 @@ fn found_in(
 fn unreadable(alloc: Global, line: u64) -> Result<Found, NoMemory>
     ensures verdict { IfOk result (λ found. found.verdict ≡ Verdict.Unreadable line) }
     ensures file { IfOk result (λ found. found.file.items ≡ []) }
-    ensures text { IfOk result (λ found. found.text.items ≡ told_text (Verdict.Unreadable line) false [] false []) }
+    ensures text { IfOk result (λ found. found.text.items ≡ told_text [] (Verdict.Unreadable line) nothing) }
 {
     let verdict = Verdict::Unreadable(line);
-    let text = text_of(alloc, verdict, false, &[], false, &[])?;
+    let nothing = Answers {
+        begins_later: false,
+        flows: false,
+        reached: &[],
+        hidden: false,
+        told: &[],
+    };
+    let text = text_of(alloc, verdict, &nothing, &[])?;
     Ok(Found {
         verdict,
         file: Vec::new(alloc),
@@ -198,7 +223,7 @@ fn unreadable(alloc: Global, line: u64) -> Result<Found, NoMemory>
 /// What is found of bytes that are read as no dump. The error is want of memory, also that of the reading.
 fn unread(alloc: Global, fault: DumpError) -> Result<Found, NoMemory>
     ensures { IfOk result (λ found. (line : ℕ) × (fault ≡ DumpError.Line line) × (found.verdict ≡ Verdict.Unreadable line)
-        × (found.file.items ≡ []) × (found.text.items ≡ told_text (Verdict.Unreadable line) false [] false [])) }
+        × (found.file.items ≡ []) × (found.text.items ≡ told_text [] (Verdict.Unreadable line) nothing)) }
 {
     match fault {
         DumpError::Line(line) => {
@@ -210,16 +235,11 @@ fn unread(alloc: Global, fault: DumpError) -> Result<Found, NoMemory>
 }
 
 /// What is found of bytes.
-fn find(
-    alloc: Global,
-    bytes: &[u8],
-    options: &AuditOptions,
-    hidden: Option<Label>,
-) -> Result<Found, NoMemory>
-    ensures { IfOk result (λ found. IsFound options.now hidden found.verdict found.file.items found.text.items bytes.now) }
+fn find(alloc: Global, bytes: &[u8], asked: &Asked<'_>) -> Result<Found, NoMemory>
+    ensures { IfOk result (λ found. IsFound asked.now found.verdict found.file.items found.text.items bytes.now) }
 {
     match read_audited(alloc, bytes) {
-        Ok(audited) => found_in(alloc, &audited, options, hidden),
+        Ok(audited) => found_in(alloc, &audited, asked),
         Err(fault) => {
             let none = unread(alloc, fault)?;
             Ok(none)
@@ -230,38 +250,37 @@ fn find(
 fn run<I: Read, S: Sink>(
     alloc: Global,
     dump: &mut I,
-    options: &AuditOptions,
-    hidden: Option<Label>,
+    asked: &Asked<'_>,
     out: &mut S,
 ) -> Result<Found, Fault>
     ensures { IfOk result (λ found. IfSome (I.remaining dump.old)
-        (IsTold (S.contents out.old) (S.contents out.new) options.now hidden found.verdict found.file.items)) }
+        (IsTold (S.contents out.old) (S.contents out.new) asked.now found.verdict found.file.items)) }
 {
     let read = bytes_of(alloc, dump)?;
-    let found = find(alloc, read.as_slice(), options, hidden)?;
+    let found = find(alloc, read.as_slice(), asked)?;
     deliver(out, found.text.as_slice())?;
     Ok(found)
 }
 
-/// Audits the dump that a reader gives, and prints `clean`, `false at line N` or `unreadable at line N`. Where flows are asked
+/// Audits the dump that a reader gives, and prints `clean`, `false at line N` or `unreadable at line N`. Where a clean dump begins at
+/// a checkpoint after the boot, the line `from its checkpoint` follows: the state that it tells was taken as it stands. Where flows are asked
 /// for and the dump is clean, a line `reaches ID` follows for each object that they reach, rising. Where an observer's label
 /// is told and the dump is clean, a line follows for each reply that differs without the calls of threads that the observer
 /// doesn't observe, as `differs at event 9, call 1, thread #5: id #8, else id #7, by next id`. Where there is no such line,
-/// `reaches nothing` or `no reply differs` says so. The faults are found in
+/// `reaches nothing` or `no reply differs` says so. What has a name is told by it. The faults are found in
 /// this order, the first one ending the audit with one line on `err`: reading, want of memory, writing. A status below 3 is
 /// the verdict's, whose lines were printed and handed on then.
 pub fn audit_on<I: Read, S: Sink, E: Write>(
     alloc: Global,
     dump: &mut I,
-    options: &AuditOptions,
-    hidden: Option<Label>,
+    asked: &Asked<'_>,
     out: &mut S,
     err: &mut E,
 ) -> AuditEnd
     ensures { result.status < 3 → IfSome (I.remaining dump.old)
-        (TellsVerdict (S.contents out.old) (S.contents out.new) options.now hidden result.status result.file.items) }
+        (TellsVerdict (S.contents out.old) (S.contents out.new) asked.now result.status result.file.items) }
 {
-    match run(alloc, dump, options, hidden, out) {
+    match run(alloc, dump, asked, out) {
         Ok(
             Found {
                 verdict,

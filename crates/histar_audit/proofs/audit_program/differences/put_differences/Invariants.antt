@@ -5,5 +5,5 @@ use Rattle.histar_audit.proofs.audit_program.differences.put_differences.Given a
 
 abbrev pub invariant-loop-difference : goal.invariant-loop-difference
 invariant-loop-difference l =
-    l.text.items ++ flat_map difference_line (drop l.difference-index l.told)
-    ≡ l.fn.text.items ++ flat_map difference_line l.told
+    l.text.items ++ flat_map (difference_line l.names) (drop l.difference-index l.told)
+    ≡ l.fn.text.items ++ flat_map (difference_line l.names) l.told
