@@ -647,9 +647,12 @@ const struct row LEFT[] = {
     {"a record of a call in a batch", HISTAR_BAD_BATCH, record_of_a_call_in_a_batch},
     {"a record after the close", HISTAR_UNAVAILABLE, record_of_a_closed_kernel},
     {"a record that the rules refuse", HISTAR_NO_ENTRY, record_that_is_refused},
+#ifndef CALLED
+    /* (the library's own functions know its layout) */
     {"an open by a library with more", HISTAR_DONE, opened_with_more},
     {"an open by a library with less", HISTAR_OTHER_VERSION, opened_with_less},
     {"an open by a library with other records", HISTAR_OTHER_VERSION, opened_with_others},
     {"a share by a library with less", HISTAR_OTHER_VERSION, shared_with_less},
+#endif
     {NULL, HISTAR_DONE, NULL},
 };

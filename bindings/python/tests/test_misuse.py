@@ -356,9 +356,12 @@ class Misuse(unittest.TestCase):
         told, dumps = set(), []
 
         def dumps_on():
-            for _ in range(5):
+            # (until a call was made meanwhile, and a dump)
+            for _ in range(1000):
                 with contextlib.suppress(histar.Busy):
                     dumps.append(kernel.dump())
+                if "made" in told and dumps:
+                    break
 
         with Kernel(64) as kernel:
             kernel.log_on(keep=Keep.ALL)
