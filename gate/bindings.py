@@ -14,7 +14,7 @@ import tempfile
 
 from gate import cluster, confine, python
 from gate.headers import unguarded, wrong
-from gate.plays import Script, ran, text
+from gate.plays import Script, is_clean, ran, text
 from gate.rules import played_rules
 from gate.scripts import script
 
@@ -30,7 +30,7 @@ THREAD_SECONDS = int(os.environ.get("THREAD_SECONDS", "60"))
 WARNINGS = ["-Wall", "-Wextra", "-Wpedantic", "-Werror"]
 WRAPPED = "-Wl,--wrap=malloc,--wrap=realloc,--wrap=free"
 # Each function of the header is the library's then, and called.
-CALLED = ["-O0", "-w", *(f"-D{it}=extern inline __attribute__((gnu_inline))" for it in ("HISTAR_INLINE", "HISTAR_INTO_CALLER"))]
+CALLED = ["-O0", "-w", "-DCALLED", *(f"-D{it}=extern inline __attribute__((gnu_inline))" for it in ("HISTAR_INLINE", "HISTAR_INTO_CALLER"))]
 MISUSE = ("misuse", "-pthread", f"{WRAPPED},--wrap=histar_layout")
 MANIFEST = ["--offline", "--manifest-path", "bindings/rust/Cargo.toml"]
 
@@ -136,7 +136,7 @@ class Bindings:
         for it in stored:
             if ran_dumping(dump, *player, it.file, *it.words)[:2] != (0, it.out):
                 differing.append(it.file)
-            if self.auditor and ran(self.auditor, dump) != (0, "clean\n"):
+            if self.auditor and not is_clean(ran(self.auditor, dump)):
                 unclean.append(it.file)
         self.report.counts(not differing, f"{name}: {len(stored)} scripts of examples/ print what is stored" + but_not(differing))
         if self.auditor:
@@ -350,7 +350,7 @@ class Bindings:
             self.leave_out("audits of logs that are cut", "./histar-audit is not built")
             return
         logs = sorted(glob.glob(f"{folder}/dump-*"))
-        unclean = [os.path.basename(it) for it in logs if run(self.auditor, it) != (True, "clean\n")]
+        unclean = [os.path.basename(it) for it in logs if not is_clean(ran(self.auditor, it))]
         self.report.counts(len(logs) == 3 and not unclean, f"./histar-audit finds {len(logs)} logs that were cut clean" + but_not(unclean))
 
     def try_threads(self, compiler):
@@ -381,7 +381,7 @@ class Bindings:
         os.makedirs(folder, exist_ok=True)
         self.counts("C: eight seats dump what they have seen", threads, "0", "0", folder)
         seats = sorted(glob.glob(f"{folder}/seat-*"))
-        unclean = [os.path.basename(it) for it in seats if run(self.auditor, it) != (True, "clean\n")]
+        unclean = [os.path.basename(it) for it in seats if not is_clean(ran(self.auditor, it))]
         self.report.counts(len(seats) == 8 and not unclean, f"./histar-audit finds the dumps of {len(seats)} seats clean" + but_not(unclean))
 
     def try_coming_back(self, compiler):
@@ -393,7 +393,7 @@ class Bindings:
         said = [ran(service, *texts, CLIENTS) for _ in range(3)]
         self.report.counts(said == [(0, f"start {n}\n") for n in (1, 2, 3)], f"C: a service with {CLIENTS} clients comes back at its checkpoint")
         if self.auditor:
-            unclean = [it for it in texts if ran(self.auditor, it) != (0, "clean\n")]
+            unclean = [it for it in texts if not is_clean(ran(self.auditor, it))]
             self.report.counts(not unclean, "./histar-audit finds its checkpoint and its log clean" + but_not(unclean))
         else:
             self.leave_out("audits of a checkpoint", "./histar-audit is not built")

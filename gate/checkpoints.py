@@ -3,7 +3,7 @@ ones, made to keep a machine busy, of which it is told as quickly."""
 import tempfile
 import time
 
-from gate.plays import audit, ran
+from gate.plays import CLEAN_LATER, audit, ran
 
 # Objects of all kinds, two mappings, a waiting packet, and two threads with events.
 SCRIPT = """c = boot: cat_create
@@ -122,7 +122,7 @@ def refuse(report, histar=("./histar",), auditor=("./histar-audit",)):
         with open(script, "w", encoding="utf-8") as it:
             it.write(SCRIPT)
         ran(*histar, "run", script, "--dump", dump, "--checkpoint", "100")
-        audit(report, auditor, dump, "clean", "a dump that is a checkpoint alone")
+        audit(report, auditor, dump, CLEAN_LATER, "a dump that is a checkpoint alone")
         with open(dump, encoding="utf-8") as it:
             lines = it.read().split("\n")
         for name, old, new in BROKEN:

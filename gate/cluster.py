@@ -10,7 +10,7 @@ import subprocess
 
 from gate import cluster_operator
 from gate.cluster_faults import DROPPED, LOGS, Faults
-from gate.plays import ran, text
+from gate.plays import is_clean, ran, text
 
 ETCD = "bindings/rust/histar-etcd"
 # Where Debian puts the sources of packages.
@@ -109,7 +109,7 @@ def try_engine(report, library, room, auditor):
     report.counts(is_well, f"faults on etcd: {said}")
     report.counts(faults.counts[DROPPED] > 0, "the log was dropped beneath a node that slept")
     if auditor:
-        are_clean = all(ran(auditor, f"{room}/faults/{it}") == (0, "clean\n") for it in LOGS)
+        are_clean = all(is_clean(ran(auditor, f"{room}/faults/{it}")) for it in LOGS)
         report.counts(are_clean, "./histar-audit finds clean the log of the faults, and what is left of it")
 
 

@@ -16,7 +16,7 @@ TUTORIAL = "docs/TUTORIAL.md"
 FILES = ["README.md", TUTORIAL, "docs/PROGRAMS.md"]
 # What counts as documents, and how many words they may have. A word has a letter; what a script made is left out.
 PAGES = ("README.md", "CONTRIBUTING.md", "CHANGELOG.md", "examples/README.md", "crates/README.md", "docs/*.md")
-MOST_WORDS = 30_000
+MOST_WORDS = 31_500
 MADE = re.compile(r"<!-- made by .*?<!-- end of what [^>]*-->", re.S)
 NAMED = re.compile(r"`(\w+)::([^`\s]*(?: [^`]*)?)`")
 LINK = re.compile(r"\]\(([^)#:\s]*)(?:#([^)\s]*))?\)")

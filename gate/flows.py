@@ -8,7 +8,7 @@ import subprocess
 import tempfile
 from concurrent.futures import ThreadPoolExecutor
 
-from gate.plays import text
+from gate.plays import FROM_CHECKPOINT, text
 from gate.scripts import script
 
 SEED = 2011
@@ -194,7 +194,8 @@ class Case:
                 wanted = told.reached(start, category)
                 done = subprocess.run([*auditor, dump, "--from", str(start), "--category", str(category)], stdout=subprocess.PIPE, text=True)
                 asked, flowing = asked + 1, flowing + bool(wanted)
-                if (done.returncode, done.stdout) != (0, "".join(["clean\n", *(f"reaches {it}\n" for it in wanted or ["nothing"])])):
+                said = done.stdout.replace(f"{FROM_CHECKPOINT}\n", "", 1)
+                if (done.returncode, said) != (0, "".join(["clean\n", *(f"reaches {it}\n" for it in wanted or ["nothing"])])):
                     return asked, flowing, f"{self.file}, from {start} in category {category}: {done.stdout.split()}, wanted {wanted}"
         return asked, flowing, None
 

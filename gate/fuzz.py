@@ -13,6 +13,7 @@ import subprocess
 import tempfile
 from concurrent.futures import ThreadPoolExecutor
 
+from gate.plays import CLEAN, is_clean
 from gate.rules import played_rules
 
 SEED = 20061
@@ -110,7 +111,7 @@ def end_of_dump(words, text):
     """How the audit of a dump ended, in a word, and whether it did so as it may."""
     status, out, err = ran(words)
     if status == 0:
-        return "clean", (out, err) == (b"clean\n", b"")
+        return CLEAN, is_clean((status, out.decode(errors="replace"))) and not err
     verdict = re.fullmatch(rb"(false|unreadable) at line (\d+)\n", out)
     if not verdict or err:
         return "no verdict", False

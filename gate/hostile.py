@@ -228,14 +228,14 @@ def beginnings(report, room):
 
 
 def closed_pipe(report, room):
-    """Standard output that nobody reads any more is an output fault, and no dump is left."""
+    """Standard output that nobody reads any more ends a run without a word, and no dump is left."""
     put(f"{room}/script", "boot: cat_create\n")
     read, write = os.pipe()
     os.close(read)
     how = {"stdin": subprocess.DEVNULL, "stdout": write, "stderr": subprocess.PIPE, "text": True}
     done = subprocess.run(["./histar", "run", f"{room}/script", "--dump", f"{room}/unwritten"], **how)
     os.close(write)
-    is_well = (done.returncode, done.stderr, os.path.exists(f"{room}/unwritten")) == (3, "histar: output fault\n", False)
+    is_well = (done.returncode, done.stderr, os.path.exists(f"{room}/unwritten")) == (3, "", False)
     report.counts(is_well, f"a closed pipe: status {done.returncode}, {done.stderr.strip()}")
 
 

@@ -11,6 +11,9 @@ import tempfile
 
 # The seconds that a command may take.
 LIMIT = 60
+# What the auditor prints of a clean dump, and of one that begins at a checkpoint after the boot.
+FROM_CHECKPOINT = "from its checkpoint"
+CLEAN, CLEAN_LATER = "clean", f"clean\n{FROM_CHECKPOINT}"
 
 
 def text(file, otherwise=""):
@@ -53,12 +56,17 @@ class Script:
     def audit(self, report, histar, auditor):
         with tempfile.TemporaryDirectory(prefix="dump-") as folder:
             ran(*histar, "run", self.file, *self.words, "--dump", f"{folder}/dump")
-            audit(report, auditor, f"{folder}/dump", "clean", f"the dump of {self.file}")
+            audit(report, auditor, f"{folder}/dump", CLEAN, f"the dump of {self.file}")
+
+
+def is_clean(ended):
+    """Whether an audit ended with the verdict clean, of a dump that begins at the boot or at a later checkpoint."""
+    return ended in ((0, f"{CLEAN}\n"), (0, f"{CLEAN_LATER}\n"))
 
 
 def audit(report, auditor, file, wanted, name):
     """Audits a dump; what the auditor prints tells its status too."""
-    status = 0 if wanted == "clean" else 1 if wanted.startswith("false") else 2
+    status = 0 if wanted in (CLEAN, CLEAN_LATER) else 1 if wanted.startswith("false") else 2
     ended, said = ran(*auditor, file)
     is_well = (ended, said) == (status, f"{wanted}\n")
     report.counts(is_well, f"audit of {name}: {said.strip()}" + ("" if is_well else f", status {ended}, wanted {wanted}, {status}"))
