@@ -296,7 +296,8 @@ def try_trees(report, first):
         ("a clone of another user", ["git", "clone", "--quiet", os.getcwd(), "tree"], {"user": "nobody"}),
         ("the tarball, without git", ["tar", "-xf", tar], {"env": {**os.environ, "GIT_DIR": "/nowhere"}}),
     ):
-        with tempfile.TemporaryDirectory(prefix="trees-") as room:
+        # (a stage's own folder is its user's alone)
+        with tempfile.TemporaryDirectory(prefix="trees-", dir="/var/tmp") as room:
             os.chmod(room, 0o755)
             tree = built_again(room, made)
             if "user" in how:
