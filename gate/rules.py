@@ -10,7 +10,7 @@ import re
 import tempfile
 from concurrent.futures import ThreadPoolExecutor
 
-from gate.plays import ran, text as text_of
+from gate.plays import is_clean, ran, text as text_of
 
 MAKE = "crates/rule_scripts/scripts/make.py"
 # A phase with lines of two workers: a script in which one stands is played through seats. Neither line is a call that changes anything.
@@ -55,7 +55,7 @@ class Play:
         return ended, text_of(dump)
 
     def is_clean(self):
-        return ran(*self.auditor, f"{self.room}/dump") == (0, "clean\n")
+        return is_clean(ran(*self.auditor, f"{self.room}/dump"))
 
     def at_once(self):
         """What the script's own lines print where its phases are played through seats, and the dump."""
