@@ -110,7 +110,7 @@ MEANS = tuple(
         ("a filter by prctl", (157, 22, 2, 0), (0, 1)),
         ("a filter by prctl with an upper half", (157, 22 + (1 << 32), 2, 0), (0, 1)),
         ("a lease with an upper half", (72, 0, 1025 + (1 << 32), 0), (0, 1)),
-        ("a name by a handle", (303, -100, "$p=q(/usr)", "$h=pack(q(LLx128),128,0)", "$m=pack(q(i),0)", 0), (0, 1)),
+        ("a name by a handle", (303, -100, "$p=q(/tmp)", "$h=pack(q(LLx128),128,0)", "$m=pack(q(i),0)", 0), (0, 1)),
         ("a file by a handle", (304, -1, "$h=pack(q(LLx128),128,0)", 0), (0,)),
         ("typed characters for a terminal", (16, 0, 0x5412, "$c=q(x)"), (0, 1)),
         ("typed characters for a terminal with an upper half", (16, 0, 0x5412 + (1 << 32), "$c=q(x)"), (0, 1)),
